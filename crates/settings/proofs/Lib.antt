@@ -1,0 +1,4 @@
+pub mod Digits
+pub mod Listing
+pub mod Meanings
+pub mod Places

@@ -1,0 +1,13 @@
+pub mod Results
+pub mod Settings
+pub mod FairSettings
+pub mod Hats
+pub mod FairHats
+pub mod Views
+pub mod Cases
+pub mod FairCases
+pub mod Pairs
+pub mod FairPairs
+pub mod Dates
+pub mod FairDates
+pub mod Readings
