@@ -2,6 +2,8 @@
 #[cfg(test)]
 mod lines;
 #[cfg(test)]
+mod marks_by_example;
+#[cfg(test)]
 mod settings_by_example;
 #[cfg(test)]
 mod texts;

@@ -1,0 +1,5 @@
+pub mod Accepts
+pub mod Areas
+pub mod Every
+pub mod Written
+pub mod Nodes
