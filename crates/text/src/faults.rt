@@ -51,7 +51,7 @@ pub impl From<TokenFault> for LineFault as LineFromToken {
 }
 
 impl TokenFault {
-    pub fn number(self) -> u16
+    pub(crate) fn number(self) -> u16
         ensures is_its_number { λ r. ⌜ r ≡ ofToken self .number ⌝ }
     {
         match self {
@@ -60,7 +60,7 @@ impl TokenFault {
         }
     }
 
-    pub fn column(self) -> usize
+    pub(crate) fn column(self) -> usize
         ensures is_its_column { λ r. ⌜ r ≡ ofToken self .column ⌝ }
     {
         match self {
@@ -70,7 +70,7 @@ impl TokenFault {
 }
 
 impl FormulaFault {
-    pub fn number(self) -> u16
+    pub(crate) fn number(self) -> u16
         ensures is_its_number { λ r. ⌜ r ≡ ofFormula self .number ⌝ }
     {
         match self {
@@ -79,7 +79,7 @@ impl FormulaFault {
         }
     }
 
-    pub fn column(self) -> usize
+    pub(crate) fn column(self) -> usize
         ensures is_its_column { λ r. ⌜ r ≡ ofFormula self .column ⌝ }
     {
         match self {
