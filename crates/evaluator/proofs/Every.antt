@@ -7,7 +7,8 @@ use native.Mathlib.Omega.{arith}
 use lib.Dec.{eqb}
 use Rattle.std.proofs.shelf.Tests.{cases-lt, cases-bool, and-left, and-right, and-from, both-ways, eq-eqb, ne-eqb}
 use Rattle.model.specs.Meaning.{Meaning}
-use Rattle.theory.specs.Truth.{every, implies, constant}
+use Rattle.model.specs.Rows.{implies, every}
+use Rattle.theory.specs.Truth.{constant}
 
 pub every-true : (n : ℕ) (p : ℕ → Bool) → ((v : ℕ) → v < n → p v ≡ true) → every p n ≡ true
 unfolding every

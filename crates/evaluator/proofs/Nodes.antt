@@ -8,7 +8,8 @@ use Rattle.std.proofs.shelf.Tests.{and-parts, ltb-true}
 use Rattle.model.specs.Meaning.{Meaning}
 use Rattle.theory.specs.declared.node.Node.{Node}
 use Rattle.theory.specs.Formula.{Formula, Shape, shape, shapes, build, Earlier}
-use Rattle.theory.specs.Truth.{implies, every, reaches, everywhere, constant, truth, holds}
+use Rattle.model.specs.Rows.{implies, every}
+use Rattle.theory.specs.Truth.{reaches, everywhere, constant, truth, holds}
 use Rattle.evaluator.specs.Checks.{sound, names-there}
 use Rattle.evaluator.specs.Rows.{says, Rows-there}
 use Rattle.evaluator.proofs.Areas.{row-fits}

@@ -2,8 +2,8 @@
 use mathlib.Core.Path.{_≡_, refl, sym, ap, _∙_}
 use mathlib.Core.Bool.{Bool, true, false, cond, _||_, _&&_}
 use mathlib.Core.Logic.{_⊎_, inl, inr, ⊎-elim}
-use mathlib.Core.List.{List, [], _∷_, map}
-use Prim.Native.Nat.{ℕ, zero, suc, _+_, _-_, _*_, _≤_, _<_}
+use mathlib.Core.List.{List, map}
+use Prim.Native.Nat.{ℕ, _+_, _-_, _*_, _≤_, _<_}
 use native.Mathlib.Omega.{arith}
 use lib.Dec.{eqb, leb, ltb}
 use lib.ListN.{length, take, drop}
@@ -11,7 +11,7 @@ use lib.Seq.{take-at}
 use Rattle.std.specs.Results.{isOk}
 use Rattle.std.specs.declared.result.Result.{Result}
 use Rattle.std.specs.declared.result.Result.the-variants.{Ok, Err}
-use Rattle.std.proofs.shelf.Lists.{length-map}
+use Rattle.std.proofs.shelf.Lists.{length-map, take-map}
 use Rattle.std.proofs.shelf.Tests.{or-parts, and-from, and-cases, ltb-false, leb-false, le-leb, cond-true, cond-false, false≢true, true≢false}
 use Rattle.model.specs.declared.refusals.Refusal.{Refusal}
 use Rattle.model.specs.declared.refusals.Refusal.the-variants.{PairBounds, CaseCount, ShortList, BadDate}
@@ -51,18 +51,13 @@ counted low sum n count e =
       fits = omega (arith, is, x .3);
     }
 
-map-take : {P Q : Type 0} (f : P → Q) (n : ℕ) (xs : List P) → map f (take n xs) ≡ take n (map f xs)
-map-take f zero xs = refl
-map-take f (suc n) [] = refl
-map-take f (suc n) (x ∷ xs) = ap (λ ys. f x ∷ ys) (map-take f n xs)
-
 -- the pairs stand at the front of the list
 pub pairs-front : {P : Type 0} (f : P → ℕ × ℕ) (low sum count : ℕ) (before after : List P) → Ok count ≡ fill-answer low sum (length before)
     → map f after ≡ filled low sum (map f before) → map f (take count after) ≡ pairs low sum
 unfolding filled
 pairs-front f low sum count before after e w =
     let same : fill-answer low sum (length (map f before)) ≡ Ok count = ap (fill-answer low sum) (length-map before f) ∙ sym e in
-    map-take f count after ∙ ap (take count) (w ∙ ap (λ r. laid r (pairs low sum) (map f before)) same)
+    sym (take-map f count after) ∙ ap (take count) (w ∙ ap (λ r. laid r (pairs low sum) (map f before)) same)
     ∙ take-at (pairs low sum) (drop count (map f before)) count (sym (counted low sum (length before) count e .all))
 
 -- the list that was checked

@@ -1,7 +1,7 @@
--- Rows of 64-bit words, in which world w is the bit of weight 2 ^ (w % 64) of word w / 64; counting worlds.
+-- Rows of 64-bit words, in which world w is the bit of weight 2 ^ (w % 64) of word w / 64; tests on worlds, and how many pass.
 use mathlib.Core.List.{List}
 use mathlib.Core.Path.{_≡_}
-use mathlib.Core.Bool.{Bool, false, _||_, cond}
+use mathlib.Core.Bool.{Bool, true, false, _&&_, _||_, cond}
 use Prim.Native.Nat.{ℕ, zero, suc, _+_, _/_, _%_, _^_}
 use lib.Bits.{bitAnd, bitOr, bitXor}
 use lib.Dec.{eqb, ltb}
@@ -35,6 +35,16 @@ abbrev pub Rows-are-sets : Type 0
 Rows-are-sets = (row : List ℕ) (w v : ℕ)
     → (bit (with-world row w) v ≡ cond (eqb v w) (has-place row w) (bit row v))
     × (bit (without-world row w) v ≡ cond (eqb v w) false (bit row v))
+
+-- if x then y
+abbrev pub implies : Bool → Bool → Bool
+implies true y = y
+implies false y = true
+
+-- every number below n passes the test
+unfoldable pub every : (ℕ → Bool) → ℕ → Bool
+every p zero = true
+every p (suc n) = p n && every p n
 
 -- how many numbers below n pass the test
 unfoldable pub count : (ℕ → Bool) → ℕ → ℕ

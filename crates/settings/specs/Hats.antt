@@ -1,13 +1,13 @@
 -- Agents in a circle or in a queue; fact i belongs to agent i.
-use Prim.Native.Nat.{ℕ, zero, suc, _^_}
-use mathlib.Core.Bool.{Bool, true, not, cond, _&&_, _||_}
+use Prim.Native.Nat.{ℕ, _^_}
+use mathlib.Core.Bool.{Bool, not, cond, _&&_}
 use lib.Dec.{eqb, leb, ltb}
 use Rattle.std.specs.declared.result.Result.{Result}
 use Rattle.std.specs.declared.result.Result.the-variants.{Ok, Err}
 use Rattle.model.specs.declared.refusals.Refusal.{Refusal}
 use Rattle.model.specs.declared.refusals.Refusal.the-variants.{AgentCount}
 use Rattle.model.specs.Meaning.{Meaning, differ}
-use Rattle.model.specs.Rows.{digit, count}
+use Rattle.model.specs.Rows.{digit, implies, every, count}
 use Rattle.settings.specs.declared.sight.Sight.{Sight}
 use Rattle.settings.specs.declared.sight.Sight.the-variants.{Circle, Queue}
 use Rattle.settings.specs.Settings.{Setting, set-up}
@@ -17,14 +17,9 @@ abbrev pub sees : Sight → ℕ → ℕ → Bool
 sees Circle i f = not (eqb f i)
 sees Queue i f = ltb f i
 
--- every number below k passes the test
-unfoldable pub all-below : ℕ → (ℕ → Bool) → Bool
-all-below zero test = true
-all-below (suc k) test = test k && all-below k test
-
 -- of k facts, each that agent i sees is true at both worlds u and v or at neither
 unfoldable pub agrees : Sight → ℕ → ℕ → ℕ → ℕ → Bool
-agrees s k i u v = all-below k (λ f. not (sees s i f) || not (differ (digit u f) (digit v f)))
+agrees s k i u v = every (λ f. implies (sees s i f) (not (differ (digit u f) (digit v f)))) k
 
 -- k agents: a world for each choice of true facts, and quantity 0 is the number of true facts
 abbrev pub hats : Sight → ℕ → Setting

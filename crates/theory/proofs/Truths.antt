@@ -1,28 +1,14 @@
 -- The test decides the truth.
 use Prim.Native.Nat.{ℕ, _<_}
 use mathlib.Core.Path.{_≡_, refl}
-use mathlib.Core.Bool.{Bool, true, false, not}
+use mathlib.Core.Bool.{true}
 use Rattle.std.specs.Orderings.{Decides}
-use Rattle.std.proofs.shelf.Ways.{decides-eqb, decides-not, decides-and, decides-like, decides-below-and}
-use Rattle.std.proofs.shelf.Tests.{true≢false, false≢true}
+use Rattle.std.proofs.shelf.Ways.{decides-eqb, decides-not, decides-and, decides-like}
 use Rattle.model.specs.Meaning.{Meaning, Lawful, Alike}
 use Rattle.theory.specs.Formula.{Formula}
-use Rattle.theory.specs.Truth.{Holds, truth, implies, every, reaches, Truth-decided}
-
-pub decides-it : (b : Bool) → Decides b (b ≡ true)
-decides-it b = (λ e. e, λ e. e)
-
-pub decides-its-false : (b : Bool) → Decides (not b) (b ≡ false)
-decides-its-false true = (λ e. absurd (false≢true e), λ e. absurd (true≢false e))
-decides-its-false false = (λ _. refl, λ _. refl)
-
-pub decides-implies : {P Q : Type 0} (x y : Bool) → Decides x P → Decides y Q → Decides (implies x y) (P → Q)
-decides-implies true y dx dy = (λ e _. dy .0 e, λ k. dy .1 (k (dx .0 refl)))
-decides-implies false y dx dy = (λ _ p. absurd (false≢true (dx .1 p)), λ _. refl)
-
-pub decides-every : (p : ℕ → Bool) (P : ℕ → Type 0) → ((k : ℕ) → Decides (p k) (P k)) → (n : ℕ) → Decides (every p n) ((k : ℕ) → k < n → P k)
-unfolding every
-decides-every p P each n = decides-below-and p P (every p) each refl (λ _. refl) n
+use Rattle.model.specs.Rows.{implies}
+use Rattle.model.proofs.Deciding.{decides-it, decides-its-false, decides-implies, decides-every}
+use Rattle.theory.specs.Truth.{Holds, truth, reaches, Truth-decided}
 
 pub decides-reaches : (m : Meaning) (p w v : ℕ) → Decides (reaches m p w v) ((m .survives v ≡ true) × Alike m p w v)
 decides-reaches m p w v = decides-and _ _ (decides-it (m .survives v)) (decides-its-false (m .distinguishes p w v))

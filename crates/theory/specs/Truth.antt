@@ -1,10 +1,11 @@
 -- Truth of a formula at a world, and the test for it.
-use Prim.Native.Nat.{ℕ, zero, suc}
+use Prim.Native.Nat.{ℕ}
 use mathlib.Core.Path.{_≡_}
-use mathlib.Core.Bool.{Bool, true, false, not, _&&_}
+use mathlib.Core.Bool.{Bool, true, not, _&&_}
 use lib.Dec.{eqb}
 use Rattle.std.specs.Orderings.{Decides}
 use Rattle.model.specs.Meaning.{Meaning, Lawful, Alike}
+use Rattle.model.specs.Rows.{implies, every}
 use Rattle.theory.specs.Formula.{Formula}
 
 -- the formula is true at world w, which survives; what an agent knows goes by the surviving worlds that it does not distinguish from w
@@ -19,15 +20,6 @@ Holds m (Formula.value p q φ) w = (u v : ℕ) → m .survives u ≡ true → Al
     → m .survives v ≡ true → Alike m p w v → Holds m φ v → m .quantity q u ≡ m .quantity q v
 
 -- if the first, then the second
-abbrev pub implies : Bool → Bool → Bool
-implies true b = b
-implies false b = true
-
--- every number below n passes the test
-unfoldable pub every : (ℕ → Bool) → ℕ → Bool
-every p zero = true
-every p (suc n) = p n && every p n
-
 -- world v survives and agent p does not distinguish it from w
 abbrev pub reaches : Meaning → ℕ → ℕ → ℕ → Bool
 reaches m p w v = m .survives v && not (m .distinguishes p w v)

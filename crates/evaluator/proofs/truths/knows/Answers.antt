@@ -1,8 +1,8 @@
 use mathlib.Core.Path.{sym, ap₂, _∙_}
 use mathlib.Core.Bool.{Bool, not, _&&_}
 use native.Mathlib.Omega.{arith}
-use Rattle.model.specs.Rows.{bit}
-use Rattle.theory.specs.Truth.{implies, reaches}
+use Rattle.model.specs.Rows.{bit, implies}
+use Rattle.theory.specs.Truth.{reaches}
 use Rattle.evaluator.proofs.Every.{every-true, every-false, not-implied}
 use Rattle.evaluator.proofs.truths.knows.Needs as need
 

@@ -1,8 +1,8 @@
 use mathlib.Core.Path.{_≡_}
 use mathlib.Core.Bool.{true}
 use Prim.Native.Nat.{ℕ, _<_}
-use Rattle.model.specs.Rows.{bit}
-use Rattle.theory.specs.Truth.{implies, reaches}
+use Rattle.model.specs.Rows.{bit, implies}
+use Rattle.theory.specs.Truth.{reaches}
 use Rattle.evaluator.proofs.truths.knows.Given as given
 
 -- the row has every world so far that the agent reaches
