@@ -6,8 +6,7 @@ use Rattle.model.specs.Meaning.{Meaning}
 use Rattle.model.specs.Rows.{words}
 use Rattle.model.proofs.Counts.{least_fits}
 use Rattle.theory.specs.declared.node.Node.{Node}
-use Rattle.model.specs.Causes.{first}
-use Rattle.evaluator.specs.Checks.{usable, sound, no_node, unsound, first_bad, faults, Fillable}
+use Rattle.evaluator.specs.Checks.{usable, sound, no_node, unsound, first_bad, faults, first, Fillable}
 
 -- a cause that does not apply
 passed : (b : Bool) (e : Refusal) (x : Result (Unit {0}) Refusal) → cond b (Err e) x ≡ Ok tt → (b ≡ false) × (x ≡ Ok tt)

@@ -8,8 +8,7 @@ use Rattle.theory.specs.declared.node.Node.{Node}
 use Rattle.theory.specs.Formula.{formula}
 use Rattle.theory.specs.Truth.{Holds, holds}
 use Rattle.evaluator.specs.declared.marks.Marked.{Marked}
-use Rattle.model.specs.Causes.{first, clear}
-use Rattle.evaluator.specs.Checks.{faults}
+use Rattle.evaluator.specs.Checks.{faults, first, clear}
 use Rattle.evaluator.specs.Rows.{row_bit, rows_of}
 
 -- at how many surviving worlds the formula of node `root` is true, and how many survive

@@ -1,7 +1,6 @@
 // Whether a list of nodes can be evaluated.
 ghost use Rattle.std.specs.Prelude.{◌≡◌, ◌+◌, ◌≤◌, length, Ok};
-ghost use Rattle.model.specs.Causes.{first};
-ghost use Rattle.evaluator.specs.Checks.{usable, sound, first_bad, faults, Fillable};
+ghost use Rattle.evaluator.specs.Checks.{usable, sound, first_bad, faults, first, Fillable};
 
 use model::questions::Model;
 use model::refusals::Refusal;

@@ -1,4 +1,6 @@
 // The evaluation of a formula at all worlds of a model.
+#![tactic(auto)]
+
 mod checks;
 mod fills;
 pub mod marks;

@@ -1,4 +1,6 @@
 // Reads formulas and writes their nodes.
+#![tactic(auto)]
+
 pub mod faults;
 pub mod nodes;
 pub mod parts;

@@ -10,14 +10,14 @@ use Rattle.lexer.proofs.Picks.{chosen, none}
 use Rattle.formulas.specs.Reading.{Outcome, fault, parsed, Reader, bind, at, number_or, a_number, perhaps, end_in, the_end}
 use Rattle.formulas.specs.Readers.{disjunction}
 use Rattle.formulas.specs.Sentences.{Sentence}
-use Rattle.text.specs.declared.settings.SettingWord.{SettingWord}
-use Rattle.text.specs.declared.settings.SettingWord.TheVariants as sets
-use Rattle.text.specs.declared.calls.CallWord.{CallWord}
-use Rattle.text.specs.declared.calls.CallWord.TheVariants as asks
-use Rattle.text.specs.Reading.{last_number, dates_after, the_dates, beginning_in, the_beginning, rest_of, following}
-use Rattle.text.specs.Firsts.{refused, accepted, answer}
-use Rattle.text.specs.Settings.{Opening, pairs, dates, circle, queue, setting_word, setting_rest}
-use Rattle.text.specs.Calls.{Request, marks, verdict, call_word, call_rest, holding, writing, unless_full}
+use Rattle.lines.specs.declared.settings.SettingWord.{SettingWord}
+use Rattle.lines.specs.declared.settings.SettingWord.TheVariants as sets
+use Rattle.lines.specs.declared.calls.CallWord.{CallWord}
+use Rattle.lines.specs.declared.calls.CallWord.TheVariants as asks
+use Rattle.lines.specs.Reading.{last_number, dates_after, the_dates, beginning_in, the_beginning, rest_of, following}
+use Rattle.lines.specs.Firsts.{refused, accepted, answer}
+use Rattle.lines.specs.Settings.{Opening, pairs, dates, circle, queue, setting_word, setting_rest}
+use Rattle.lines.specs.Calls.{Request, marks, verdict, call_word, call_rest, holding, writing, unless_full}
 use Rattle.grammar.specs.Grammar.{place}
 use Rattle.grammar.specs.Faults.{Inside, Ended, end_alone, one_before, a_setting, a_call}
 use Rattle.grammar.specs.Lines.{Lists, no_dates, one_date, Says, says_pairs, says_dates, says_circle, says_queue, Asks, asks_where, asks_verdict, SettingsRead, CallsRead}

@@ -11,10 +11,10 @@ use Rattle.lexer.specs.Tiles.{bytes_of}
 use Rattle.lexer.specs.Tokens.{number, word, bad, done, Placed, numeral, mark as mark_of, piece_at, more, scan, pieces_from}
 use Rattle.lexer.proofs.Scans.{pieces_at}
 use Rattle.formulas.specs.Reading.{Outcome, fault, parsed, Reader, at}
-use Rattle.text.specs.Reading.{the_beginning, following}
-use Rattle.text.specs.Settings.{setting_word, setting_rest}
-use Rattle.text.specs.Calls.{Request, call_word, call_rest, holding, writing, unless_full}
-use Rattle.text.specs.Firsts.{refused, accepted, answer, first_word}
+use Rattle.lines.specs.Reading.{the_beginning, following}
+use Rattle.lines.specs.Settings.{setting_word, setting_rest}
+use Rattle.lines.specs.Calls.{Request, call_word, call_rest, holding, writing, unless_full}
+use Rattle.lines.specs.Firsts.{refused, accepted, answer, first_word}
 use Rattle.grammar.specs.Grammar.{place}
 use Rattle.grammar.specs.Faults.{Inside, Ended, end_alone, one_before, LinesEnd, a_setting, a_call, LineBreaks, LinesBreak, LinesByPieces, RefusalsBreak}
 use Rattle.grammar.proofs.Fillers.{Filler, zero_here, true_here, equals_here, dot_here, close_here, circle_here, verdict_here, filled, Puts, none_more, one_more, whole}

@@ -5,13 +5,13 @@ use Rattle.lexer.specs.Faults.{Fault}
 use Rattle.lexer.specs.Tokens.{Piece, number, word, sign, bad, done, Placed}
 use Rattle.formulas.specs.Reading.{Outcome, fault, parsed, Reader, bind, at, number_or, a_number, end_in, the_end}
 use Rattle.formulas.specs.Readers.{disjunction}
-use Rattle.text.specs.declared.settings.SettingWord.{SettingWord}
-use Rattle.text.specs.declared.settings.SettingWord.TheVariants as sets
-use Rattle.text.specs.declared.calls.CallWord.{CallWord}
-use Rattle.text.specs.declared.calls.CallWord.TheVariants as asks
-use Rattle.text.specs.Reading.{last_number, before, dates_after, Beginning, beginning_in, the_beginning, rest_of, following}
-use Rattle.text.specs.Settings.{pairs, dates, circle, queue, setting_word, setting_rest}
-use Rattle.text.specs.Calls.{marks, verdict, call_word, call_rest}
+use Rattle.lines.specs.declared.settings.SettingWord.{SettingWord}
+use Rattle.lines.specs.declared.settings.SettingWord.TheVariants as sets
+use Rattle.lines.specs.declared.calls.CallWord.{CallWord}
+use Rattle.lines.specs.declared.calls.CallWord.TheVariants as asks
+use Rattle.lines.specs.Reading.{last_number, before, dates_after, Beginning, beginning_in, the_beginning, rest_of, following}
+use Rattle.lines.specs.Settings.{pairs, dates, circle, queue, setting_word, setting_rest}
+use Rattle.lines.specs.Calls.{marks, verdict, call_word, call_rest}
 use Rattle.grammar.specs.Grammar.{place}
 use Rattle.grammar.specs.Faults.{Inside, Ended, a_setting, a_call}
 use Rattle.grammar.proofs.Sound.{no_parse}

@@ -6,10 +6,10 @@ use Rattle.lexer.specs.Tokens.{Piece, number, word, sign, bad, done, Placed, pie
 use Rattle.formulas.specs.Reading.{fault, parsed, Reader}
 use Rattle.formulas.specs.Sentences.{Sentence}
 use Rattle.formulas.specs.Readers.{disjunction}
-use Rattle.text.specs.Reading.{the_beginning, following}
-use Rattle.text.specs.Firsts.{refused}
-use Rattle.text.specs.Settings.{Opening, setting_word, setting_rest, setting_of, read_setting}
-use Rattle.text.specs.Calls.{Request, call_word, call_rest, call_of, read_call}
+use Rattle.lines.specs.Reading.{the_beginning, following}
+use Rattle.lines.specs.Firsts.{refused}
+use Rattle.lines.specs.Settings.{Opening, setting_word, setting_rest, setting_of, read_setting}
+use Rattle.lines.specs.Calls.{Request, call_word, call_rest, call_of, read_call}
 use Rattle.grammar.specs.Grammar.{place, Disjunction}
 
 -- a piece that is not the end

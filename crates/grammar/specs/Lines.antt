@@ -4,9 +4,9 @@ use Rattle.theory.specs.declared.node.Node.{Node}
 use Rattle.lexer.specs.Bytes.{value_of}
 use Rattle.lexer.specs.Tokens.{number, word, done, Placed, pieces_from}
 use Rattle.formulas.specs.Sentences.{Sentence}
-use Rattle.text.specs.Firsts.{accepted}
-use Rattle.text.specs.Settings.{Opening, pairs, dates, circle, queue, read_setting}
-use Rattle.text.specs.Calls.{Request, marks, verdict, holding, writing, read_call}
+use Rattle.lines.specs.Firsts.{accepted}
+use Rattle.lines.specs.Settings.{Opening, pairs, dates, circle, queue, read_setting}
+use Rattle.lines.specs.Calls.{Request, marks, verdict, holding, writing, read_call}
 use Rattle.grammar.specs.Grammar.{place, Disjunction}
 
 -- numbers by twos, a month and its day, and then the end

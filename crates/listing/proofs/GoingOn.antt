@@ -3,13 +3,12 @@ use Rattle.std.proofs.Common.{◌≡◌, ℕ, ◌+◌, ◌<◌, ◌≤◌, Bool,
 use Rattle.std.proofs.lemmas.Bool.{le-ltb, cond-false}
 use Rattle.model.specs.declared.refusals.Refusal.{Refusal}
 use Rattle.model.specs.Meaning.{Meaning}
-use Rattle.text.specs.Firsts as said
-use Rattle.text.specs.Settings as set
+use Rattle.text.specs.Lines as said
 use Rattle.listing.specs.declared.entries.Entry.{Entry}
 use Rattle.listing.specs.declared.outcomes.Header.{Header}
 use Rattle.listing.specs.declared.outcomes.Refused.{Refused}
 use Rattle.listing.specs.Lines.{onto, lines_of, blank}
-use Rattle.listing.specs.Listing.{Dialogue, starting, turn, Page, Filled, entries_from, first_filled, model_of, plays, sets, begun, opened, page, refusing, refused_for}
+use Rattle.listing.specs.Listing.{Page, Filled, answered, entries_from, first_filled, model_of, plays, sets, begun, opened, page, refusing, refused_for}
 use Rattle.listing.specs.Laws.{Goes_on, StaysRefused}
 
 -- a text with more after a line end has the lines of both
@@ -30,29 +29,20 @@ lines_both (b ∷ bs) more = at (eqb b 10) (lines_of bs) (some_line bs) (lines_b
     at true ls x e = ap (λ (l : List (List ℕ)). [] ∷ l) e
     at false ls x e = ap (onto b) (e ∙ ap (λ (l : List (List ℕ)). l ++ lines_of more) x.2) ∙ ap (λ (l : List (List ℕ)). onto b l ++ lines_of more) (sym x.2)
 
--- where a dialogue stands after some lines
-unfoldable reached : Dialogue → List (List ℕ) → Dialogue
-reached d [] = d
-reached d (l ∷ ls) = cond (blank l) (reached d ls) (reached (turn d l).next ls)
-
 -- the entries of both
-entries_both : (d : Dialogue) (n : ℕ) (ls more : List (List ℕ)) → entries_from d n (ls ++ more) ≡ entries_from d n ls ++ entries_from (reached d ls) (n + length ls) more
-unfolding entries_from reached
-entries_both d n [] more = ap (λ (k : ℕ). entries_from d k more) (sym (add-zero n))
-entries_both d n (l ∷ ls) more =
-    at (record { number = n; outcome = (turn d l).outcome }) (blank l)
-    (entries_both d (n + 1) ls more ∙ ap (λ (k : ℕ). entries_from d (n + 1) ls ++ entries_from (reached d ls) k more) next)
-    (entries_both (turn d l).next (n + 1) ls more ∙ ap (λ (k : ℕ). entries_from (turn d l).next (n + 1) ls ++ entries_from (reached (turn d l).next ls) k more) next)
+entries_both : (m : Meaning) (n : ℕ) (ls more : List (List ℕ)) → entries_from m n (ls ++ more) ≡ entries_from m n ls ++ entries_from m (n + length ls) more
+unfolding entries_from
+entries_both m n [] more = ap (λ (k : ℕ). entries_from m k more) (sym (add-zero n))
+entries_both m n (l ∷ ls) more = at (record { number = n; outcome = answered m (said.read_call l) }) (blank l) (entries_both m (n + 1) ls more ∙ ap (λ (k : ℕ). entries_from m (n + 1) ls ++ entries_from m k more) next)
   where
     next : n + 1 + length ls ≡ n + length (l ∷ ls)
     next = omega arith
 
-    at : (e : Entry) (t : Bool) → entries_from d (n + 1) (ls ++ more) ≡ entries_from d (n + 1) ls ++ entries_from (reached d ls) (n + length (l ∷ ls)) more
-        → entries_from (turn d l).next (n + 1) (ls ++ more) ≡ entries_from (turn d l).next (n + 1) ls ++ entries_from (reached (turn d l).next ls) (n + length (l ∷ ls)) more
-        → cond t (entries_from d (n + 1) (ls ++ more)) (e ∷ entries_from (turn d l).next (n + 1) (ls ++ more))
-        ≡ cond t (entries_from d (n + 1) ls) (e ∷ entries_from (turn d l).next (n + 1) ls) ++ entries_from (cond t (reached d ls) (reached (turn d l).next ls)) (n + length (l ∷ ls)) more
-    at e true h k = h
-    at e false h k = ap (λ (es : List Entry). e ∷ es) k
+    at : (e : Entry) (t : Bool) → entries_from m (n + 1) (ls ++ more) ≡ entries_from m (n + 1) ls ++ entries_from m (n + length (l ∷ ls)) more
+        → cond t (entries_from m (n + 1) (ls ++ more)) (e ∷ entries_from m (n + 1) (ls ++ more))
+        ≡ cond t (entries_from m (n + 1) ls) (e ∷ entries_from m (n + 1) ls) ++ entries_from m (n + length (l ∷ ls)) more
+    at e true h = h
+    at e false h = ap (λ (es : List Entry). e ∷ es) h
 
 -- the same first line, with more after it
 first_both : (n : ℕ) (ls more : List (List ℕ)) (x : Filled) → first_filled n ls ≡ Some x → first_filled n (ls ++ more) ≡ Some (record { number = x.number; line = x.line; rest = x.rest ++ more })
@@ -93,12 +83,12 @@ none_some e = let z : ◌≡◌ {A = ℕ} 0 1 = cc in omega arith
 module _ (n : ℕ) (ls more : List (List ℕ)) where
   -- a page with a header goes on
   begun_on : (k : ℕ) (r : Result Meaning Refusal) (h : Header) → (begun k (plays r n ls)).header ≡ Some h
-      → (d : Dialogue) × (begun k (plays r n (ls ++ more)) ≡ record { header = Some h; entries = (begun k (plays r n ls)).entries ++ entries_from d (n + length ls) more })
-  begun_on k (Ok m) h e = (reached (starting m) ls, λ i. record { header = e i; entries = entries_both (starting m) n ls more i })
+      → (m : Meaning) × (begun k (plays r n (ls ++ more)) ≡ record { header = Some h; entries = (begun k (plays r n ls)).entries ++ entries_from m (n + length ls) more })
+  begun_on k (Ok m) h e = (m, λ i. record { header = e i; entries = entries_both m n ls more i })
   begun_on k (Err r) h e = absurd (none_some e)
 
-  sets_on : (k : ℕ) (a : said.Answer set.Opening) (h : Header) → (begun k (sets a n ls)).header ≡ Some h
-      → (d : Dialogue) × (begun k (sets a n (ls ++ more)) ≡ record { header = Some h; entries = (begun k (sets a n ls)).entries ++ entries_from d (n + length ls) more })
+  sets_on : (k : ℕ) (a : said.Answer said.Opening) (h : Header) → (begun k (sets a n ls)).header ≡ Some h
+      → (m : Meaning) × (begun k (sets a n (ls ++ more)) ≡ record { header = Some h; entries = (begun k (sets a n ls)).entries ++ entries_from m (n + length ls) more })
   sets_on k (said.refused f) h e = absurd (none_some e)
   sets_on k (said.accepted o) h e = begun_on k (model_of o) h e
 
@@ -107,7 +97,7 @@ module _ (n : ℕ) (ls more : List (List ℕ)) where
   begun_stays k (Ok m) e = absurd (none_some (sym e))
   begun_stays k (Err r) e = refl
 
-  sets_stays : (k : ℕ) (a : said.Answer set.Opening) → (begun k (sets a n ls)).header ≡ None → begun k (sets a n (ls ++ more)) ≡ begun k (sets a n ls)
+  sets_stays : (k : ℕ) (a : said.Answer said.Opening) → (begun k (sets a n ls)).header ≡ None → begun k (sets a n (ls ++ more)) ≡ begun k (sets a n ls)
   sets_stays k (said.refused f) e = refl
   sets_stays k (said.accepted o) e = begun_stays k (model_of o) e
 
@@ -123,19 +113,19 @@ module _ (text more : List ℕ) (short : length (text ++ 10 ∷ more) ≤ 16384)
     after = whole (text ++ 10 ∷ more) short ∙ ap (λ (ls : List (List ℕ)). opened (first_filled 1 ls)) (lines_both text more) ∙ ap opened (first_both 1 (lines_of text) (lines_of more) x first)
 
     on : (h : Header) → (page text).header ≡ Some h
-        → (d : Dialogue) × (page (text ++ 10 ∷ more) ≡ record { header = Some h; entries = (page text).entries ++ entries_from d (1 + length (lines_of text)) (lines_of more) })
+        → (m : Meaning) × (page (text ++ 10 ∷ more) ≡ record { header = Some h; entries = (page text).entries ++ entries_from m (1 + length (lines_of text)) (lines_of more) })
     on h e =
-        let y = sets_on (x.number + 1) x.rest (lines_of more) x.number (set.read_setting x.line) h (ap (λ (p : Page). p.header) (sym before) ∙ e) in
+        let y = sets_on (x.number + 1) x.rest (lines_of more) x.number (said.read_setting x.line) h (ap (λ (p : Page). p.header) (sym before) ∙ e) in
         (y.0, after ∙ y.1 ∙ ap₂ (λ (es : List Entry) (k : ℕ). record { header = Some h; entries = es ++ entries_from y.0 k (lines_of more) }) (ap (λ (p : Page). p.entries) (sym before)) (first_place 1 (lines_of text) x first))
 
     stays : (page text).header ≡ None → page (text ++ 10 ∷ more) ≡ page text
-    stays e = after ∙ sets_stays (x.number + 1) x.rest (lines_of more) x.number (set.read_setting x.line) (ap (λ (p : Page). p.header) (sym before) ∙ e) ∙ sym before
+    stays e = after ∙ sets_stays (x.number + 1) x.rest (lines_of more) x.number (said.read_setting x.line) (ap (λ (p : Page). p.header) (sym before) ∙ e) ∙ sym before
 
 pub goes_on : Goes_on
 goes_on text more h short e = go (first_filled 1 (lines_of text)) refl
   where
     go : (o : Option Filled) → first_filled 1 (lines_of text) ≡ o
-        → (d : Dialogue) × (page (text ++ 10 ∷ more) ≡ record { header = Some h; entries = (page text).entries ++ entries_from d (1 + length (lines_of text)) (lines_of more) })
+        → (m : Meaning) × (page (text ++ 10 ∷ more) ≡ record { header = Some h; entries = (page text).entries ++ entries_from m (1 + length (lines_of text)) (lines_of more) })
     go (Some x) q = on text more short x q h e
     go None q = absurd (none_some (ap (λ (p : Page). p.header) (sym (whole text (short_text text more short) ∙ ap opened q)) ∙ e))
 

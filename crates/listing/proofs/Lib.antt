@@ -5,4 +5,3 @@ pub mod Following
 pub mod Dating
 pub mod Settling
 pub mod GoingOn
-pub mod Turning

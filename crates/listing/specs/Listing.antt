@@ -1,5 +1,5 @@
 -- The listing of a puzzle text.
-use Rattle.std.specs.Prelude.{ℕ, ◌+◌, ◌-◌, cond, List, [], ◌∷◌, ◌++◌, length, Some, None, Ok, Err, Option, Result, nat_lt}
+use Rattle.std.specs.Prelude.{ℕ, ◌+◌, cond, List, [], ◌∷◌, ◌++◌, length, Some, None, Ok, Err, Option, Result, nat_lt}
 use Rattle.model.specs.declared.refusals.Refusal.{Refusal}
 use Rattle.model.specs.Meaning.{Meaning}
 use Rattle.model.specs.Refusals.{number_of}
@@ -8,13 +8,8 @@ use Rattle.settings.specs.declared.sight.Sight.TheVariants.{Circle, Queue}
 use Rattle.settings.specs.Hats.{hats_of}
 use Rattle.settings.specs.Pairs.{pairs_of}
 use Rattle.settings.specs.Dates.{dates_of}
-use Rattle.lexer.specs.Faults.{Fault}
-use Rattle.theory.specs.declared.node.Node.{Node}
-use Rattle.evaluator.specs.declared.marks.Marked.{Marked}
-use Rattle.evaluator.specs.Marks.{answer}
-use Rattle.text.specs.Firsts as said
-use Rattle.text.specs.Settings as set
-use Rattle.text.specs.Calls as asked
+use Rattle.text.specs.Faults.{Fault}
+use Rattle.text.specs.Lines as said
 use Rattle.listing.specs.declared.entries.Entry.{Entry}
 use Rattle.listing.specs.declared.outcomes.Header.{Header}
 use Rattle.listing.specs.declared.outcomes.Refused.{Refused}
@@ -44,62 +39,26 @@ pub record Page : Type 0 where
 abbrev pub refusing : ℕ → Refused → Page
 refusing n r = record { header = None; entries = record { number = n; outcome = outcome.Refusal r } ∷ [] }
 
--- what goes on from line to line: the model, and the nodes that accepted lines wrote
-pub record Dialogue : Type 0 where
-  pub model : Meaning
-  pub nodes : List Node
-
--- a dialogue begins with no nodes
-abbrev pub starting : Meaning → Dialogue
-starting m = record { model = m; nodes = [] }
-
--- the two counts of a mark, as they are listed
-abbrev pub counted : Result Marked Refusal → Result Outcome Refusal
-counted (Ok k) = Ok (outcome.Where k.holding k.survivors)
-counted (Err r) = Err r
-
--- what a request finds, where its nodes are written last; the work area has 8,192 words
-abbrev pub found : Dialogue → asked.Request → Result Outcome Refusal
-found d (asked.marks x) = counted (answer d.model d.nodes (length d.nodes) (length d.nodes - 1) 8192)
-found d asked.verdict = Ok (outcome_of d.model (verdict_of d.model))
-
--- what is said of a line, and how the dialogue goes on
-pub record Turn : Type 0 where
-  pub outcome : Outcome
-  pub next : Dialogue
-
--- only an accepted line keeps its nodes
-abbrev pub settle : Dialogue → Dialogue → Result Outcome Refusal → Turn
-settle before after (Ok o) = record { outcome = o; next = after }
-settle before after (Err r) = record { outcome = outcome.Refusal (of_refusal r); next = before }
-
--- the dialogue with the nodes of a line that was read
-abbrev pub noting : Dialogue → asked.Request → Dialogue
-noting d q = record { model = d.model; nodes = asked.nodes_with d.nodes (said.accepted q) }
-
-abbrev pub answered : Dialogue → said.Answer asked.Request → Turn
-answered d (said.refused f) = record { outcome = outcome.Refusal (of_fault f); next = d }
-answered d (said.accepted q) = settle d (noting d q) (found (noting d q) q)
-
--- a later line
-abbrev pub turn : Dialogue → List ℕ → Turn
-turn d line = answered d (asked.read_call line d.nodes)
+-- what is said of a later line
+abbrev pub answered : Meaning → said.Answer said.Request → Outcome
+answered m (said.refused f) = outcome.Refusal (of_fault f)
+answered m (said.accepted said.verdict) = outcome_of m (verdict_of m)
 
 -- an entry for each line that is not blank, the first of the lines having number n
-unfoldable pub entries_from : Dialogue → ℕ → List (List ℕ) → List Entry
-entries_from d n [] = []
-entries_from d n (l ∷ ls) = cond (blank l) (entries_from d (n + 1) ls) (record { number = n; outcome = (turn d l).outcome } ∷ entries_from (turn d l).next (n + 1) ls)
+unfoldable pub entries_from : Meaning → ℕ → List (List ℕ) → List Entry
+entries_from m n [] = []
+entries_from m n (l ∷ ls) = cond (blank l) (entries_from m (n + 1) ls) (record { number = n; outcome = answered m (said.read_call l) } ∷ entries_from m (n + 1) ls)
 
 -- the page of a model, and of the lines from number n on
 abbrev pub played : Meaning → ℕ → List (List ℕ) → Page
-played m n ls = record { header = Some (header_of m); entries = entries_from (starting m) n ls }
+played m n ls = record { header = Some (header_of m); entries = entries_from m n ls }
 
 -- the model that a setting asks for
-abbrev pub model_of : set.Opening → Result Meaning Refusal
-model_of (set.pairs low sum) = pairs_of low sum
-model_of (set.dates ds) = dates_of ds
-model_of (set.circle k) = hats_of Circle k
-model_of (set.queue k) = hats_of Queue k
+abbrev pub model_of : said.Opening → Result Meaning Refusal
+model_of (said.pairs low sum) = pairs_of low sum
+model_of (said.dates ds) = dates_of ds
+model_of (said.circle k) = hats_of Circle k
+model_of (said.queue k) = hats_of Queue k
 
 -- the page of a setting, if there is a model for it
 abbrev pub plays : Result Meaning Refusal → ℕ → List (List ℕ) → Result Page Refused
@@ -107,7 +66,7 @@ plays (Ok m) n ls = Ok (played m n ls)
 plays (Err r) n ls = Err (of_refusal r)
 
 -- the page of a setting line, if it is accepted
-abbrev pub sets : said.Answer set.Opening → ℕ → List (List ℕ) → Result Page Refused
+abbrev pub sets : said.Answer said.Opening → ℕ → List (List ℕ) → Result Page Refused
 sets (said.refused f) n ls = Err (of_fault f)
 sets (said.accepted o) n ls = plays (model_of o) n ls
 
@@ -129,7 +88,7 @@ first_filled n (l ∷ ls) = cond (blank l) (first_filled (n + 1) ls) (Some (reco
 -- that line is the setting; a text with no such line is refused whole
 abbrev pub opened : Option Filled → Page
 opened None = refusing 0 (refused_for 17 0)
-opened (Some x) = begun x.number (sets (set.read_setting x.line) (x.number + 1) x.rest)
+opened (Some x) = begun x.number (sets (said.read_setting x.line) (x.number + 1) x.rest)
 
 -- the page of a puzzle text, which has at most 16,384 bytes
 abbrev pub page : List ℕ → Page

@@ -4,10 +4,7 @@ use Rattle.listing.specs.declared.openings.Opening.{Opening}
 use Rattle.listing.specs.declared.outcomes.Refused.{Refused}
 use Rattle.listing.specs.declared.sheets.Sheet.{Sheet}
 use Rattle.listing.specs.Lines.{lines_left}
-use Rattle.formulas.specs.Stores.{store_of}
-use Rattle.model.specs.Meaning.{Meaning}
-use Rattle.listing.specs.declared.scratch.Scratch.{Scratch}
-use Rattle.listing.specs.Listing.{Page, Filled, Dialogue}
+use Rattle.listing.specs.Listing.{Page, Filled}
 
 abbrev pub page_of : Sheet → Page
 page_of s = record { header = s.header; entries = vec_items s.entries }
@@ -19,7 +16,3 @@ filled o = record { number = o.number; line = o.line.now; rest = lines_left o.re
 abbrev pub settled : Result (Unit {0}) Refused → Page → Result Page Refused
 settled (Ok _) p = Ok p
 settled (Err r) p = Err r
-
--- where a dialogue stands
-abbrev pub standing : Meaning → Scratch → Dialogue
-standing m s = record { model = m; nodes = (store_of s.nodes).nodes }

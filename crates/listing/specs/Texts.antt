@@ -3,7 +3,7 @@ use Rattle.std.specs.Prelude.{ℕ, List, [], ◌∷◌, ◌++◌, take, Some, No
 use Rattle.listing.specs.declared.entries.Entry.{Entry}
 use Rattle.listing.specs.declared.outcomes.Header.{Header}
 use Rattle.listing.specs.declared.outcomes.Outcome.{Outcome}
-use Rattle.listing.specs.declared.outcomes.Outcome.TheVariants.{Contradiction, Unique, Rivals, Where, Refusal}
+use Rattle.listing.specs.declared.outcomes.Outcome.TheVariants.{Contradiction, Unique, Rivals, Refusal}
 
 -- numbers in decimal, each after a space
 abbrev pub fields : List ℕ → List ℕ
@@ -15,7 +15,6 @@ unfoldable pub said : Outcome → List ℕ
 said Contradiction = codes "none"
 said (Unique w q) = codes "unique" ++ fields (w ∷ take q.count q.values)
 said (Rivals n u v) = codes "rivals" ++ fields (n ∷ u ∷ v ∷ [])
-said (Where h n) = codes "where" ++ fields (h ∷ n ∷ [])
 said (Refusal r) = codes "refused" ++ fields (r.number ∷ r.column ∷ [])
 
 -- a word and a number, each after a space

@@ -1,5 +1,5 @@
 // What holds of every listing, and some listings that are known.
-ghost use Rattle.listing.specs.Laws.{Goes_on, StaysRefused, KnownSettings, KnownMarks};
+ghost use Rattle.listing.specs.Laws.{Goes_on, StaysRefused, KnownSettings};
 
 // What stands in a listing stays there when the text goes on.
 pub fn listings_go_on() -> u8
@@ -12,13 +12,6 @@ pub fn listings_go_on() -> u8
 // Five settings and their whole listings.
 pub fn known_settings() -> u8
     ensures lists_known_settings { KnownSettings }
-{
-    0
-}
-
-// Five texts with formulas over small settings, and their whole listings.
-pub fn known_marks() -> u8
-    ensures lists_known_marks { KnownMarks }
 {
     0
 }

@@ -1,4 +1,6 @@
 // Turns a puzzle text into its listing.
+#![tactic(auto)]
+
 mod entries;
 mod findings;
 pub mod judges;
@@ -8,6 +10,5 @@ mod openings;
 mod outcomes;
 mod playing;
 mod refusing;
-mod scratch;
 mod sheets;
 mod workspaces;

@@ -34,11 +34,6 @@ pub enum Outcome {
         lowest: u16,
         second: u16,
     },
-    // The worlds where a formula holds, among the survivors.
-    Where {
-        holding: u16,
-        survivors: u16,
-    },
     Refusal(Refused),
 }
 
@@ -75,7 +70,6 @@ impl fmt::Display for Outcome {
 
     fn fmt<W: fmt::Write>(&self, f: &mut fmt::Formatter<W>) -> fmt::Result {
         match *self {
-            Outcome::Where { holding, survivors } => write!(f, "where {holding} {survivors}"),
             Outcome::Contradiction => write!(f, "none"),
             Outcome::Unique { world, quantities } => write!(f, "unique {world}{quantities}"),
             Outcome::Rivals {

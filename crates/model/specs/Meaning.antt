@@ -1,5 +1,5 @@
--- What a model means: which worlds survive, what each agent distinguishes, what holds where; and what a step does to that.
-use Rattle.std.specs.Prelude.{◌≡◌, ℕ, ◌<◌, ◌≤◌, Bool, true, false, cond, not, ◌&&◌, ◌||◌, ◌==◌, nat_eq}
+-- What a model and a stage mean: which worlds survive, what each agent distinguishes, what holds where.
+use Rattle.std.specs.Prelude.{◌≡◌, ℕ, ◌<◌, ◌≤◌, Bool, true, false, cond, not, ◌&&◌, ◌||◌, ◌==◌}
 
 -- a model's answers, for all numbers
 pub record Meaning : Type 0 where
@@ -59,6 +59,39 @@ heard row m = record {
 abbrev pub differ : Bool → Bool → Bool
 differ x y = cond x (not y) y
 
+-- agent p looks: it now also distinguishes two worlds of which the row has just one
+abbrev pub looked : ℕ → (ℕ → Bool) → Meaning → Meaning
+looked p row m = record {
+  width = m.width;
+  agents = m.agents;
+  facts = m.facts;
+  quantities = m.quantities;
+  survives = m.survives;
+  distinguishes = λ a u v. m.distinguishes a u v || (a == p && differ (row u) (row v));
+  fact = m.fact;
+  quantity = m.quantity;
+}
+
+-- fact f is put: it is true exactly at the surviving worlds of the row
+abbrev pub put : ℕ → (ℕ → Bool) → Meaning → Meaning
+put f row m = record {
+  width = m.width;
+  agents = m.agents;
+  facts = m.facts;
+  quantities = m.quantities;
+  survives = m.survives;
+  distinguishes = m.distinguishes;
+  fact = λ g w. cond (g == f) (m.survives w && row w) (m.fact g w);
+  quantity = m.quantity;
+}
+
+-- what a stage means, a model that can also take steps: whether it hears, how many looks it still takes, whether it puts
+pub record StageMeaning : Type 0 where
+  pub model : Meaning
+  pub hears : Bool
+  pub looks : ℕ
+  pub puts : Bool
+
 -- each agent also distinguishes what it is now told apart
 abbrev pub refined : (ℕ → ℕ → ℕ → Bool) → Meaning → Meaning
 refined apart m = record {
@@ -72,10 +105,6 @@ refined apart m = record {
   quantity = m.quantity;
 }
 
--- agent p looks: it now also distinguishes two worlds of which the row has just one
-abbrev pub looked : ℕ → (ℕ → Bool) → Meaning → Meaning
-looked p row m = refined (λ a u v. (a == p) && differ (row u) (row v)) m
-
 -- the facts that are chosen are true exactly at the surviving worlds of their rows
 abbrev pub replaced : (ℕ → Bool) → (ℕ → ℕ → Bool) → Meaning → Meaning
 replaced chosen rows m = record {
@@ -88,10 +117,6 @@ replaced chosen rows m = record {
   fact = λ g w. cond (chosen g) (m.survives w && rows g w) (m.fact g w);
   quantity = m.quantity;
 }
-
--- fact f is put: it is true exactly at the surviving worlds of the row
-abbrev pub put : ℕ → (ℕ → Bool) → Meaning → Meaning
-put f row m = replaced (λ g. nat_eq g f) (λ _. row) m
 
 -- a row's bits at worlds that do not survive make no difference to a step
 abbrev pub GoneBitsIdle : Type 0

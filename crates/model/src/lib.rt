@@ -1,4 +1,6 @@
-// What every model of a puzzle has in common: the questions it answers, rows of worlds, the verdict, the steps that a stage takes, and refusals.
+// What every model of a puzzle has in common: the questions it answers, rows of worlds, the verdict, and refusals.
+#![tactic(auto)]
+
 pub mod laws;
 pub mod questions;
 pub mod refusals;

@@ -1,4 +1,6 @@
 // Settings: models in which every world survives.
+#![tactic(auto)]
+
 pub mod cases;
 pub mod dates;
 pub mod hats;

@@ -1,46 +1,37 @@
 -- Steps along a list of dates.
-use Rattle.std.proofs.Common.{◌≡◌, ℕ, List, [], ◌∷◌, ◌++◌, Some, None, Option, sym, ap, ◌∙◌, append-nil, arith, MatchOption}
+use Rattle.std.proofs.Common.{◌≡◌, ℕ, List, [], ◌∷◌, ◌++◌, Some, None, Option, sym, ap, ◌∙◌, subst, append-nil, arith, Bor, MatchOption}
 use Rattle.std.proofs.lemmas.Option.{MatchOption-at_some, MatchOption-at_none}
-use Rattle.lexer.specs.Tokens.{pieces_from}
-use Rattle.lexer.specs.Faults.{Fault}
-use Rattle.formulas.specs.Reading.{fault, parsed, bind, a_number, number_if}
-use Rattle.formulas.specs.Steps.{Gave}
+use Rattle.text.specs.declared.tokens.Token.TheVariants.{Number}
+use Rattle.text.specs.declared.tokens.Lexeme.{Lexeme}
 use Rattle.text.specs.declared.dates.MonthDay.{MonthDay}
+use Rattle.text.specs.Bytes.{value_of}
+use Rattle.text.specs.Tokens.{pieces_from}
+use Rattle.text.specs.Faults.{Fault}
 use Rattle.text.specs.Dates.{month_day}
-use Rattle.text.specs.Reading.{before, the_dates}
-use Rattle.text.specs.Steps.{Dated}
-use Rattle.text.proofs.Readings.{before_more, day_step, after_month, month_step}
+use Rattle.text.specs.Reading.{fault, parsed, bind, a_number, before, the_dates}
+use Rattle.text.specs.Steps.{piece_of, unless_end, Fine, Next, Gave, Dated}
+use Rattle.text.proofs.Readings.{before_more, month_step}
 
-module _ (line : List ℕ) (from : ℕ) where
-  module _ (o : Option (ℕ × ℕ)) (h : MatchOption o (number_if (pieces_from line from) ≡ parsed None []) (λ x. Gave (number_if (pieces_from line from)) (Some x.0) line from x.1)) where
-    -- where there is no month, there is no date
-    pub no_month : o ≡ None → the_dates (pieces_from line from) ≡ parsed [] []
-    no_month e =
-        month_step (pieces_from line from)
-        ∙ ap (λ p. bind p after_month) (MatchOption-at_none (number_if (pieces_from line from) ≡ parsed None []) (λ x. Gave (number_if (pieces_from line from)) (Some x.0) line from x.1) e h)
+module _ (line : List ℕ) (from : ℕ) (x : Lexeme) (digits : Bor (List ℕ)) (h : Next line from x) (e : x.token ≡ Number digits) where
+  month_first : the_dates (pieces_from line from) ≡ bind (a_number (pieces_from line x.after)) (λ d r. before ((value_of digits.now, d) ∷ []) (the_dates r))
+  month_first =
+      month_step digits.now x.column (pieces_from line from) (pieces_from line x.after)
+      (h.first ∙ ap (λ t. record { piece = piece_of t; column = x.column } ∷ unless_end t (pieces_from line x.after)) e)
 
-    pub some_month : (month rest : ℕ) → o ≡ Some (month, rest) → Gave (number_if (pieces_from line from)) (Some month) line from rest
-    some_month month rest e = MatchOption-at_some (number_if (pieces_from line from) ≡ parsed None []) (λ x. Gave (number_if (pieces_from line from)) (Some x.0) line from x.1) (month, rest) e h
+  -- a month with no day after it
+  pub no_day : (f : Fault) → a_number (pieces_from line x.after) ≡ fault f → the_dates (pieces_from line from) ≡ fault f
+  no_day f k = month_first ∙ ap (λ o. bind o (λ d r. before ((value_of digits.now, d) ∷ []) (the_dates r))) k
 
-  pub bad_month : (f : Fault) → number_if (pieces_from line from) ≡ fault f → the_dates (pieces_from line from) ≡ fault f
-  bad_month f e = month_step (pieces_from line from) ∙ ap (λ o. bind o after_month) e
-
-  module _ (month rest : ℕ) (g : Gave (number_if (pieces_from line from)) (Some month) line from rest) where
-    month_first : the_dates (pieces_from line from) ≡ bind (a_number (pieces_from line rest)) (λ d r. before ((month, d) ∷ []) (the_dates r))
-    month_first = month_step (pieces_from line from) ∙ ap (λ o. bind o after_month) g.is ∙ day_step month (pieces_from line rest)
-
-    -- a month with no day after it
-    pub no_day : (f : Fault) → a_number (pieces_from line rest) ≡ fault f → the_dates (pieces_from line from) ≡ fault f
-    no_day f k = month_first ∙ ap (λ o. bind o (λ d r. before ((month, d) ∷ []) (the_dates r))) k
-
-    -- a month and its day
-    pub a_date : (day after : ℕ) → Gave (a_number (pieces_from line rest)) day line rest after → Dated line from (record { month = month; day = day }) after
-    a_date day after h =
-        record {
-          is = month_first ∙ ap (λ o. bind o (λ d r. before ((month, d) ∷ []) (the_dates r))) h.is;
-          onward = omega (arith, g.onward.bytes, h.onward.bytes);
-          within = h.within;
-        }
+  -- a month and its day
+  pub a_date : (month day after : ℕ) → month ≡ value_of digits.now → Gave (a_number (pieces_from line x.after)) day line x.after after
+      → Dated line from (record { month = month; day = day }) after
+  a_date month day after m g =
+      let moved : Fine (Number digits) from x.after = subst (λ t. Fine t from x.after) e h.fine in
+      record {
+        is = month_first ∙ ap (λ o. bind o (λ d r. before ((value_of digits.now, d) ∷ []) (the_dates r))) g.is ∙ ap (λ n. before ((n, day) ∷ []) (the_dates (pieces_from line after))) (sym m);
+        onward = omega (arith, moved.1, g.onward);
+        within = g.within;
+      }
 
 module _ (line : List ℕ) (from : ℕ) (o : Option (MonthDay × ℕ)) (h : MatchOption o (the_dates (pieces_from line from) ≡ parsed [] []) (λ x. Dated line from x.0 x.1)) where
   pub some_date : (d : MonthDay) (after : ℕ) → o ≡ Some (d, after) → Dated line from d after

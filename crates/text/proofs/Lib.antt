@@ -1,3 +1,9 @@
+pub mod Scans
+pub mod Firsts
 pub mod Readings
 pub mod Dating
-pub mod Calling
+pub mod Picks
+pub mod Said
+pub mod Heard
+pub mod Whole
+pub mod Tiling

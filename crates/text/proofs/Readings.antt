@@ -1,8 +1,8 @@
 -- Steps of the readers.
-use Rattle.std.proofs.Common.{◌≡◌, ℕ, List, [], ◌∷◌, ◌++◌, Some, None, Option, sym, refl, ap, ◌∙◌, append_assoc}
-use Rattle.lexer.specs.Tokens.{Piece, number, word, sign, bad, done, Placed}
-use Rattle.formulas.specs.Reading.{Outcome, fault, parsed, Reader, bind, at, number_or, a_number, number_if}
-use Rattle.text.specs.Reading.{before, dates_after, the_dates}
+use Rattle.std.proofs.Common.{◌≡◌, ℕ, List, [], ◌∷◌, ◌++◌, Some, None, sym, refl, ap, ◌∙◌, append_assoc}
+use Rattle.text.specs.Bytes.{value_of}
+use Rattle.text.specs.Tokens.{Piece, number, word, sign, bad, done, Placed}
+use Rattle.text.specs.Reading.{Outcome, fault, parsed, bind, at, number_or, a_number, before, dates_after, the_dates}
 
 pub before_none : (o : Outcome (List (ℕ × ℕ))) → before [] o ≡ o
 before_none (fault e) = refl
@@ -25,20 +25,8 @@ day_step m (p ∷ ps) = by_piece p.piece
     by_piece (bad n) = refl
     by_piece done = refl
 
--- what follows a month, or the end where there is none
-abbrev pub after_month : Option ℕ → Reader (List (ℕ × ℕ))
-after_month None ps = parsed [] []
-after_month (Some m) ps = dates_after (Some m) ps
-
--- dates are a month, and what follows it
-pub month_step : (ps : List Placed) → the_dates ps ≡ bind (number_if ps) after_month
-unfolding dates_after number_if
-month_step [] = refl
-month_step (p ∷ ps) = by_piece p.piece
-  where
-    by_piece : (q : Piece) → number_or p.column q (λ m. dates_after (Some m) ps) (parsed [] []) ≡ bind (number_or p.column q (λ n. parsed (Some n) ps) (parsed None [])) after_month
-    by_piece (number ds) = refl
-    by_piece (word w) = refl
-    by_piece (sign s) = refl
-    by_piece (bad n) = refl
-    by_piece done = refl
+-- a month, then a day and the other dates
+pub month_step : (ds : List ℕ) (c : ℕ) (ps rest : List Placed) → ps ≡ record { piece = number ds; column = c } ∷ rest
+    → the_dates ps ≡ bind (a_number rest) (λ d r. before ((value_of ds, d) ∷ []) (the_dates r))
+unfolding dates_after
+month_step ds c ps rest e = ap the_dates e ∙ day_step (value_of ds) rest

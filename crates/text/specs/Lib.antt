@@ -1,7 +1,9 @@
+pub mod Bytes
+pub mod Tokens
 pub mod Faults
 pub mod Dates
 pub mod Reading
 pub mod Steps
-pub mod Firsts
-pub mod Settings
-pub mod Calls
+pub mod Lines
+pub mod Laws
+pub mod Tiles

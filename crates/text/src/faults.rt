@@ -1,21 +1,35 @@
-// What can be wrong with a whole line. It holds the fault of a formula whole, and that holds the token's.
+// What can be wrong with a line. Each kind of fault holds the one below it whole.
 ghost use Rattle.std.specs.Prelude.{◌≡◌};
-ghost use Rattle.formulas.specs.declared.faults.FormulaFault.TheVariants.{Token};
-ghost use Rattle.text.specs.Faults.{of_line};
+ghost use Rattle.text.specs.Faults.{of_token, of_formula, of_line};
+ghost use Rattle.text.specs.declared.faults.FormulaFault.TheVariants.{Token};
 ghost use Rattle.text.specs.declared.faults.LineFault.TheVariants.{Formula};
 
-use formulas::faults::FormulaFault;
-use lexer::tokens::TokenFault;
+use crate::tokens::TokenFault;
 
+// What can be wrong past the first word.
+#[derive(Clone, Copy, Debug, PartialEq, Eq)]
+pub enum FormulaFault {
+    Token(TokenFault),
+    // A token out of place, by its column; one after the end where the line ends too soon.
+    Place(usize),
+}
+
+// What can be wrong with a whole line.
 #[derive(Clone, Copy, Debug, PartialEq, Eq)]
 pub enum LineFault {
     // More than 200 bytes.
     Long,
     Formula(FormulaFault),
-    // The node list is full.
-    Full,
     // A first token that is no known word of the kind that is due, by its column.
     Word(usize),
+}
+
+impl From<TokenFault> for FormulaFault {
+    ghost from_gives = { λ x y. y ≡ Token x };
+
+    fn from(value: TokenFault) -> FormulaFault {
+        FormulaFault::Token(value)
+    }
 }
 
 impl From<FormulaFault> for LineFault {
@@ -34,6 +48,45 @@ impl From<TokenFault> for LineFault {
     }
 }
 
+impl TokenFault {
+    pub(crate) fn number(self) -> u16
+        ensures is_its_number { result ≡ (of_token self).number }
+    {
+        match self {
+            TokenFault::Byte(_) => 12,
+            TokenFault::Number(_) => 13,
+        }
+    }
+
+    pub(crate) fn column(self) -> usize
+        ensures is_its_column { result ≡ (of_token self).column }
+    {
+        match self {
+            TokenFault::Byte(column) | TokenFault::Number(column) => column,
+        }
+    }
+}
+
+impl FormulaFault {
+    pub(crate) fn number(self) -> u16
+        ensures is_its_number { result ≡ (of_formula self).number }
+    {
+        match self {
+            FormulaFault::Token(fault) => fault.number(),
+            FormulaFault::Place(_) => 14,
+        }
+    }
+
+    pub(crate) fn column(self) -> usize
+        ensures is_its_column { result ≡ (of_formula self).column }
+    {
+        match self {
+            FormulaFault::Token(fault) => fault.column(),
+            FormulaFault::Place(column) => column,
+        }
+    }
+}
+
 impl LineFault {
     pub fn number(self) -> u16
         ensures is_its_number { result ≡ (of_line self).number }
@@ -41,7 +94,6 @@ impl LineFault {
         match self {
             LineFault::Long => 11,
             LineFault::Formula(fault) => fault.number(),
-            LineFault::Full => 16,
             LineFault::Word(_) => 17,
         }
     }
@@ -50,7 +102,7 @@ impl LineFault {
         ensures is_its_column { result ≡ (of_line self).column }
     {
         match self {
-            LineFault::Long | LineFault::Full => 0,
+            LineFault::Long => 0,
             LineFault::Formula(fault) => fault.column(),
             LineFault::Word(column) => column,
         }

@@ -1,7 +1,9 @@
 // Reads the lines of a puzzle text.
-pub mod calls;
+#![tactic(auto)]
+
 pub mod dates;
 pub mod faults;
-mod firsts;
+pub mod lines;
 mod readers;
-pub mod settings;
+pub mod tokens;
+mod words;

@@ -1,6 +1,6 @@
 // Lines and whole texts with the answers that the rules give them, worked out by hand.
-#[cfg(test)]
-mod formulas_by_line;
+#![tactic(auto)]
+
 #[cfg(test)]
 mod lines;
 #[cfg(test)]

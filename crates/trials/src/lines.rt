@@ -1,10 +1,8 @@
 // What is answered to a line: 0 and 0 where it is accepted, else the fault's number and column.
-use formulas::nodes::NodeList;
 use std::test::Fail;
-use text::calls::read_call;
 use text::dates::DateList;
 use text::faults::LineFault;
-use text::settings::read_setting;
+use text::lines::{read_call, read_setting};
 
 const SETTINGS: [(&str, u16, usize); 66] = [
     ("pairs 2 100", 0, 0),
@@ -122,14 +120,12 @@ fn setting_lines(rt: HostRuntime) -> Result<(), Fail> {
 }
 
 #[test]
-fn call_lines(rt: HostRuntime) -> Result<(), Fail> {
-    let mut nodes = NodeList::new(rt.alloc())?;
+fn call_lines(rt: HostRuntime) {
     for (line, number, column) in CALLS {
-        let answer = match read_call(line.as_bytes(), &mut nodes) {
+        let answer = match read_call(line.as_bytes()) {
             Ok(_) => (0, 0),
             Err(fault) => shown(fault),
         };
         assert_eq!(rt; answer, (number, column), "{}", line);
     }
-    Ok(())
 }

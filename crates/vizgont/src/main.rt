@@ -1,4 +1,6 @@
 // Prints the listing of the puzzle text on standard input.
+#![tactic(auto)]
+
 use listing::judges::Judge;
 use listing::judges::judging::MAX_TEXT;
 use std::io;

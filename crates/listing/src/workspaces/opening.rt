@@ -7,14 +7,13 @@ ghost use Rattle.settings.specs.Dates.{are_dates, dates_of};
 ghost use Rattle.settings.specs.Readings.{date_numbers};
 ghost use Rattle.text.specs.Dates.{month_day, days_of};
 ghost use Rattle.listing.specs.Lines.{lines_left, size_left};
-ghost use Rattle.text.specs.Settings.{read_setting};
+ghost use Rattle.text.specs.Lines.{read_setting};
 ghost use Rattle.listing.specs.Listing.{plays, sets};
 ghost use Rattle.listing.specs.Sheets.{page_of, settled};
 
 use crate::openings::Opening;
 use crate::outcomes::Refused;
 use crate::playing::play;
-use crate::scratch::Scratch;
 use crate::sheets::Sheet;
 use crate::workspaces::Workspace;
 use model::refusals::Refusal;
@@ -26,7 +25,7 @@ use settings::pairs::filling::fill_pairs;
 use settings::sight::Sight;
 use std::alloc::{AllocError, Global};
 use text::dates::{DateList, MonthDay};
-use text::settings::{Setting, read_setting};
+use text::lines::{Setting, read_setting};
 
 // The dates of some numbers, in an empty list.
 fn fill_dates(dates: &mut Vec<Date>, days: &[MonthDay]) -> Result<(), Refusal>
@@ -45,7 +44,6 @@ fn fill_dates(dates: &mut Vec<Date>, days: &[MonthDay]) -> Result<(), Refusal>
 // Agents in a circle or a queue.
 fn open_hats(
     sheet: &mut Sheet,
-    scratch: &mut Scratch,
     opening: Opening<'_>,
     sight: Sight,
     agents: u16,
@@ -54,14 +52,13 @@ fn open_hats(
     ensures settles { settled result (page_of sheet.new) ≡ plays (hats_of sight agents) (opening.entry.number + 1) (lines_left opening.entry.rest) }
 {
     let hats = Hats::new(sight, agents)?;
-    play(sheet, &hats, scratch, opening.number + 1, opening.rest);
+    play(sheet, &hats, opening.number + 1, opening.rest);
     Ok(())
 }
 
 // All number pairs within bounds.
 fn open_pairs(
     sheet: &mut Sheet,
-    scratch: &mut Scratch,
     opening: Opening<'_>,
     places: &mut [Pair],
     low: u16,
@@ -73,20 +70,13 @@ fn open_pairs(
 {
     let count = fill_pairs(places, low, sum)?;
     let list = CaseList::check(&places[0..count])?;
-    play(
-        sheet,
-        &Cases::new(list),
-        scratch,
-        opening.number + 1,
-        opening.rest,
-    );
+    play(sheet, &Cases::new(list), opening.number + 1, opening.rest);
     Ok(())
 }
 
 // A list of dates.
 fn open_dates(
     sheet: &mut Sheet,
-    scratch: &mut Scratch,
     opening: Opening<'_>,
     dates: &mut Vec<Date>,
     days: &DateList,
@@ -98,13 +88,7 @@ fn open_dates(
 {
     fill_dates(dates, days.as_slice())?;
     let list = CaseList::check(dates.as_slice())?;
-    play(
-        sheet,
-        &Cases::new(list),
-        scratch,
-        opening.number + 1,
-        opening.rest,
-    );
+    play(sheet, &Cases::new(list), opening.number + 1, opening.rest);
     Ok(())
 }
 
@@ -115,7 +99,6 @@ impl Workspace {
             pairs: vec![in heap; Pair::new(0, 0); MAX_CASES]?,
             dates: Vec::with_capacity(heap, MAX_CASES)?,
             days: DateList::new(heap)?,
-            scratch: Scratch::new(heap)?,
         })
     }
 
@@ -127,33 +110,14 @@ impl Workspace {
         match read_setting(opening.line, &mut self.days)? {
             Setting::Pairs { low, sum } => open_pairs(
                 sheet,
-                &mut self.scratch,
                 opening,
                 self.pairs.as_mut_slice(),
                 low,
                 sum,
             ),
-            Setting::Dates => open_dates(
-                sheet,
-                &mut self.scratch,
-                opening,
-                &mut self.dates,
-                &self.days,
-            ),
-            Setting::Circle { agents } => open_hats(
-                sheet,
-                &mut self.scratch,
-                opening,
-                Sight::Circle,
-                agents,
-            ),
-            Setting::Queue { agents } => open_hats(
-                sheet,
-                &mut self.scratch,
-                opening,
-                Sight::Queue,
-                agents,
-            ),
+            Setting::Dates => open_dates(sheet, opening, &mut self.dates, &self.days),
+            Setting::Circle { agents } => open_hats(sheet, opening, Sight::Circle, agents),
+            Setting::Queue { agents } => open_hats(sheet, opening, Sight::Queue, agents),
         }
     }
 }

@@ -1,9 +1,7 @@
 use Rattle.std.proofs.Common.{◌≡◌, ◌+◌, ◌∷◌, ◌++◌, vec_items, vec_len, sym, ap, ◌∙◌, arith}
 use Rattle.listing.specs.declared.sheets.Sheet.{Sheet}
 use Rattle.listing.specs.Lines.{lines_left, size_left}
-use Rattle.listing.specs.declared.scratch.Scratch.{Scratch}
 use Rattle.listing.specs.Listing.{entries_from}
-use Rattle.listing.specs.Sheets.{standing}
 use Rattle.listing.proofs.Following.{skips, turned, ended}
 use Rattle.listing.proofs.playing.follow.Goals as goal
 use Rattle.listing.proofs.playing.follow.Goals.{then-not-is-blank, else-not-is-blank}
@@ -15,19 +13,19 @@ loop-rest-preserved g c =
     let some = ap size_left c.in-Some.is in
     elim c.if-not-is-blank.branch [
       | then-not-is-blank w ↦ (
-        (λ i. vec_items (w.sheet-is i).entries ++ entries_from (standing m (w.scratch-is i)) (c.loop-rest.number + 1) (lines_left c.first_line.result.1))
-            ∙ turned (standing m c.loop-rest.scratch) c.loop-rest.number c.first_line.result.0.now (lines_left c.first_line.result.1) (lines_left c.loop-rest.rest) e
-            w.answer-line-outcome.result (standing m w.answer-line-outcome.new.self) (vec_items c.loop-rest.sheet.entries) (vec_items w.add.new.self.entries)
-            (sym w.if-not-is-blank.ensures.tells_blank_lines) w.answer-line-outcome.ensures.answers_the_line w.answer-line-outcome.ensures.keeps_accepted_nodes w.add.ensures.holds_the_entry
+        ap (λ (s : Sheet). vec_items s.entries ++ entries_from m (c.loop-rest.number + 1) (lines_left c.first_line.result.1)) w.sheet-is
+            ∙ turned m c.loop-rest.number c.first_line.result.0.now (lines_left c.first_line.result.1) (lines_left c.loop-rest.rest) e
+            w.answer-line-outcome.result (vec_items c.loop-rest.sheet.entries) (vec_items w.add.new.self.entries)
+            (sym w.if-not-is-blank.ensures.tells_blank_lines) w.answer-line-outcome.ensures.answers_the_line w.add.ensures.holds_the_entry
             ∙ c.loop-rest.invariant.0,
         omega (arith, some),
         omega (arith, some, ap (λ (s : Sheet). vec_len s.entries) w.sheet-is, w.add.ensures.holds_one_more),
         ap (λ (s : Sheet). s.header) w.sheet-is ∙ w.add.ensures.keeps_the_header ∙ c.loop-rest.invariant.3,
       )
       | else-not-is-blank w ↦ (
-        (λ i. vec_items (w.sheet-is i).entries ++ entries_from (standing m (w.scratch-is i)) (c.loop-rest.number + 1) (lines_left c.first_line.result.1))
+        ap (λ (s : Sheet). vec_items s.entries ++ entries_from m (c.loop-rest.number + 1) (lines_left c.first_line.result.1)) w.sheet-is
             ∙ ap (λ es. vec_items c.loop-rest.sheet.entries ++ es)
-            (skips (standing m c.loop-rest.scratch) c.loop-rest.number c.first_line.result.0.now (lines_left c.first_line.result.1) (lines_left c.loop-rest.rest) e (sym w.if-not-is-blank.ensures.tells_blank_lines))
+            (skips m c.loop-rest.number c.first_line.result.0.now (lines_left c.first_line.result.1) (lines_left c.loop-rest.rest) e (sym w.if-not-is-blank.ensures.tells_blank_lines))
             ∙ c.loop-rest.invariant.0,
         omega (arith, some),
         omega (arith, some, ap (λ (s : Sheet). vec_len s.entries) w.sheet-is),
@@ -37,6 +35,6 @@ loop-rest-preserved g c =
 
 pub returns : goal.returns
 returns g c = record {
-  adds_the_entries = ended (standing (g.M.Model.meaning c.args.model.now) c.loop-rest.scratch) c.loop-rest.number (lines_left c.loop-rest.rest) (vec_items c.loop-rest.sheet.entries) (ap lines_left c.in-default.is) ∙ c.loop-rest.invariant.0;
+  adds_the_entries = ended (g.M.Model.meaning c.args.model.now) c.loop-rest.number (lines_left c.loop-rest.rest) (vec_items c.loop-rest.sheet.entries) (ap lines_left c.in-default.is) ∙ c.loop-rest.invariant.0;
   keeps_the_header = c.loop-rest.invariant.3;
 }

@@ -1,6 +1,6 @@
 use Rattle.std.proofs.Common.{sym, ap, ◌∙◌, arith}
 use Rattle.std.proofs.lemmas.Result.{err_from_is_err_and}
-use Rattle.lexer.specs.Tokens.{pieces_from}
+use Rattle.text.specs.Tokens.{pieces_from}
 use Rattle.text.specs.Dates.{days_of}
 use Rattle.text.specs.Reading.{before, the_dates}
 use Rattle.text.proofs.Readings.{before_none}

@@ -1,5 +1,5 @@
 use Rattle.std.proofs.Common.{◌≡◌, ◌-◌, ◌*◌, ◌≤◌, length}
-use Rattle.lexer.specs.Tokens.{pieces_from}
+use Rattle.text.specs.Tokens.{pieces_from}
 use Rattle.text.specs.Dates.{days_of, count}
 use Rattle.text.specs.Reading.{before, the_dates}
 use Rattle.text.proofs.readers.all_dates.Given as goal

@@ -1,27 +1,26 @@
-use Rattle.std.proofs.Common.{◌≡◌, [], Some, None}
+use Rattle.std.proofs.Common.{rules}
 use Rattle.std.proofs.lemmas.Result.{err_from_is_err_and}
-use Rattle.std.proofs.lemmas.Option.{MatchOption-at_some, MatchOption-at_none}
-use Rattle.lexer.specs.Tokens.{pieces_from}
-use Rattle.formulas.specs.Reading.{number_if, parsed}
-use Rattle.formulas.specs.Steps.{Gave}
-use Rattle.text.proofs.Dating.{no_month, bad_month, some_month, no_day, a_date}
+use Rattle.text.specs.Reading.{dates_after}
+use Rattle.text.proofs.Dating.{no_day, a_date}
 use Rattle.text.proofs.readers.date.Goals as goal
 
-pub returns-in-err-month : goal.returns-in-err-month
-returns-in-err-month c =
-    let p = err_from_is_err_and c.from-residual.result c.from-residual.ensures.1 in
-    rw (p.1, p.2) (bad_month c.args.line.now c.args.from _ c.in-err-month.ensures.reads_a_number_or_the_end)
+pub returns-in-err-x : goal.returns-in-err-x
+unfolding dates_after
+returns-in-err-x c = search rules
 
 pub returns-in-err-day : goal.returns-in-err-day
 returns-in-err-day c =
     let p = err_from_is_err_and c.from-residual-in-err-day.result c.from-residual-in-err-day.ensures.1 in
-    rw (p.1, p.2) (no_day c.args.line.now c.args.from c.in-Some.month c.in-Some.rest
-    (some_month c.args.line.now c.args.from c.in-ok-month.field-0 c.in-ok-month.ensures.reads_a_number_or_the_end c.in-Some.month c.in-Some.rest c.in-Some.is) _ c.in-err-day.ensures.reads_a_number)
+    rw (p.1, p.2) (no_day c.args.line.now c.args.from c.in-ok-x.x c.in-Number.digits c.in-ok-x.ensures c.in-Number.is _ c.in-err-day.ensures)
 
 pub returns-in-ok-day : goal.returns-in-ok-day
 returns-in-ok-day c =
-    a_date c.args.line.now c.args.from c.in-Some.month c.in-Some.rest
-    (some_month c.args.line.now c.args.from c.in-ok-month.field-0 c.in-ok-month.ensures.reads_a_number_or_the_end c.in-Some.month c.in-Some.rest c.in-Some.is) c.in-ok-day.day c.in-ok-day.after c.in-ok-day.ensures.reads_a_number
+    a_date c.args.line.now c.args.from c.in-ok-x.x c.in-Number.digits c.in-ok-x.ensures c.in-Number.is c.number_of.result c.in-ok-day.day c.in-ok-day.after c.number_of.ensures c.in-ok-day.ensures
 
-pub returns-in-None : goal.returns-in-None
-returns-in-None c = no_month c.args.line.now c.args.from c.in-ok-month.field-0 c.in-ok-month.ensures.reads_a_number_or_the_end c.in-None.is
+pub returns-in-End : goal.returns-in-End
+unfolding dates_after
+returns-in-End c = search rules
+
+pub returns-in-Word : goal.returns-in-Word
+unfolding dates_after
+returns-in-Word c = search rules

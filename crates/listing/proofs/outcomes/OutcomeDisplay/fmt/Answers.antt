@@ -2,10 +2,6 @@ use Rattle.std.proofs.Common.{append-nil, rules}
 use Rattle.listing.specs.Texts.{said}
 use Rattle.listing.proofs.outcomes.OutcomeDisplay.fmt.Goals as goal
 
-pub returns-in-Where-clause-writes : goal.returns-in-Where-clause-writes
-unfolding said
-returns-in-Where-clause-writes g c = search (rules, append-nil)
-
 pub returns-in-Contradiction-clause-writes : goal.returns-in-Contradiction-clause-writes
 unfolding said
 returns-in-Contradiction-clause-writes g c = search rules

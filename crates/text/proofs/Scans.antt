@@ -1,0 +1,73 @@
+-- Facts on the pieces of a line.
+use Rattle.std.proofs.Common.{◌≡◌, ℕ, zero, suc, ◌+◌, ◌-◌, ◌*◌, ◌<◌, ◌≤◌, true, false, List, [], ◌∷◌, length, get_or, take, drop, fold, sym, refl, ap, ◌∙◌, ⊎_elim, add-zero, one-add, arith}
+use Rattle.std.specs.List.{prefix_len}
+use Rattle.std.proofs.lemmas.List.{drop-drop, drop_more, drop_all}
+use Rattle.std.proofs.lemmas.List.Sums.{fold_more}
+use Rattle.std.proofs.lemmas.Bool.{cases_Bool, cond-false}
+use Rattle.text.specs.declared.tokens.Class.TheVariants.{Space}
+use Rattle.text.specs.Bytes.{belongs, value_of}
+use Rattle.text.specs.Tokens.{done, piece_at, more, scan, pieces_from}
+
+abbrev digits : ℕ → ℕ → ℕ
+digits n b = n * 10 + (b - 48)
+
+pub value_grows : (n : ℕ) (ds : List ℕ) → n ≤ fold digits n ds
+value_grows n [] = omega arith
+value_grows n (d ∷ ds) = omega (arith, value_grows (digits n d) ds)
+
+pub value_more : (ds : List ℕ) (i : ℕ) → i < length ds → value_of (take (i + 1) ds) ≡ value_of (take i ds) * 10 + (get_or ds i 0 - 48)
+value_more ds i h = fold_more digits 0 ds i 0 h
+
+folded_split : (n i : ℕ) (ds : List ℕ) → fold digits n ds ≡ fold digits (fold digits n (take i ds)) (drop i ds)
+folded_split n zero ds = refl
+folded_split n (suc i) [] = refl
+folded_split n (suc i) (d ∷ ds) = folded_split (digits n d) i ds
+
+-- what the first digits write is no more than what all do
+pub value_front : (i : ℕ) (ds : List ℕ) → value_of (take i ds) ≤ value_of ds
+value_front i ds = omega (arith, folded_split 0 i ds, value_grows (value_of (take i ds)) (drop i ds))
+
+-- bytes to skip are passed over
+pub scan_skip : (k c : ℕ) (bs : List ℕ) → k ≤ length bs → scan k c bs ≡ scan 0 (c + k) (drop k bs)
+scan_skip zero c bs h = ap (λ n. scan 0 n bs) (sym (add-zero c))
+scan_skip (suc k) c [] h = absurd (omega arith)
+scan_skip (suc k) c (b ∷ bs) h = scan_skip k (c + 1) bs (omega arith) ∙ ap (λ n. scan 0 n (drop k bs)) (let e : c + 1 + k ≡ c + suc k = omega arith in e)
+
+-- so are spaces
+scan_spaces : (c : ℕ) (bs : List ℕ) → scan 0 c bs ≡ scan 0 (c + prefix_len (belongs Space) bs) (drop (prefix_len (belongs Space) bs) bs)
+scan_spaces c [] = ap (λ n. scan 0 n []) (sym (add-zero c))
+scan_spaces c (b ∷ bs) = ⊎_elim (yes' (scan_spaces (c + 1) bs)) no' (cases_Bool (belongs Space b))
+  where
+    yes' : scan 0 (c + 1) bs ≡ scan 0 (c + 1 + prefix_len (belongs Space) bs) (drop (prefix_len (belongs Space) bs) bs) → belongs Space b ≡ true → scan 0 c (b ∷ bs) ≡ scan 0 (c + prefix_len (belongs Space) (b ∷ bs)) (drop (prefix_len (belongs Space) (b ∷ bs)) (b ∷ bs))
+    yes' r e = simp (e, one-add) (r ∙ ap (λ n. scan 0 n (drop (prefix_len (belongs Space) bs) bs)) (let q : c + 1 + prefix_len (belongs Space) bs ≡ c + suc (prefix_len (belongs Space) bs) = omega arith in q))
+
+    no' : belongs Space b ≡ false → scan 0 c (b ∷ bs) ≡ scan 0 (c + prefix_len (belongs Space) (b ∷ bs)) (drop (prefix_len (belongs Space) (b ∷ bs)) (b ∷ bs))
+    no' e = simp (e, add-zero)
+
+module _ (line : List ℕ) (at : ℕ) where
+  pub pieces_spaces : (k : ℕ) → k ≡ prefix_len (belongs Space) (drop at line) → pieces_from line at ≡ pieces_from line (at + k)
+  unfolding pieces_from
+  pieces_spaces k e =
+      scan_spaces (at + 1) (drop at line)
+      ∙ ap (λ n. scan 0 (at + 1 + n) (drop n (drop at line))) (sym e)
+      ∙ (λ i. scan 0 (let q : at + 1 + k ≡ at + k + 1 = omega arith in q i) (drop-drop k at line i))
+
+  pub pieces_end : length line ≤ at → pieces_from line at ≡ record { piece = done; column = at + 1 } ∷ []
+  unfolding pieces_from
+  pieces_end h = ap (λ l. scan 0 (at + 1) l) (drop_all at line h)
+
+  abbrev pub after_first : List ℕ
+  after_first = drop (at + 1) line
+
+  abbrev pub first_byte : ℕ
+  first_byte = get_or line at 0
+
+  pub pieces_first : at < length line → belongs Space first_byte ≡ false → more first_byte after_first ≤ length after_first
+      → pieces_from line at ≡ record { piece = piece_at first_byte after_first; column = at + 1 } ∷ pieces_from line (at + 1 + more first_byte after_first)
+  unfolding pieces_from
+  pieces_first h e fits =
+      ap (λ l. scan 0 (at + 1) l) (drop_more line at 0 h)
+      ∙ cond-false (belongs Space first_byte) _ _ e
+      ∙ ap (λ l. record { piece = piece_at first_byte after_first; column = at + 1 } ∷ l)
+      (scan_skip (more first_byte after_first) (at + 1 + 1) after_first fits
+      ∙ (λ i. scan 0 (let q : at + 1 + 1 + more first_byte after_first ≡ at + 1 + more first_byte after_first + 1 = omega arith in q i) (drop-drop (more first_byte after_first) (at + 1) line i)))

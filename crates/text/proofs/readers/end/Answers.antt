@@ -1,0 +1,15 @@
+use Rattle.std.proofs.Common.{rules}
+use Rattle.text.specs.Reading.{the_end}
+use Rattle.text.proofs.readers.end.Goals as goal
+
+pub returns-in-err-x : goal.returns-in-err-x
+unfolding the_end
+returns-in-err-x c = search rules
+
+pub returns-in-End : goal.returns-in-End
+unfolding the_end
+returns-in-End c = search rules
+
+pub returns-in-Number : goal.returns-in-Number
+unfolding the_end
+returns-in-Number c = search rules
