@@ -1,11 +1,11 @@
 -- One line more of a listing.
-use Rattle.std.proofs.Common.{◌≡◌, ℕ, ◌+◌, Bool, true, false, cond, List, [], ◌∷◌, ◌++◌, Some, None, Option, sym, refl, ap, ◌∙◌, append_assoc, append-nil}
+use Rattle.std.proofs.Common.{◌≡◌, ℕ, ◌+◌, true, false, List, [], ◌∷◌, ◌++◌, Some, None, sym, refl, append_assoc, append-nil}
 use Rattle.model.specs.Meaning.{Meaning}
 use Rattle.text.specs.Lines.{read_call}
 use Rattle.listing.specs.declared.entries.Entry.{Entry}
 use Rattle.listing.specs.declared.outcomes.Outcome.{Outcome}
 use Rattle.listing.specs.Lines.{blank}
-use Rattle.listing.specs.Listing.{answered, entries_from, Filled, first_filled}
+use Rattle.listing.specs.Listing.{answered, entries_from, first_filled}
 
 module _ (m : Meaning) (n : ℕ) (l : List ℕ) (ls lines : List (List ℕ)) (e : lines ≡ l ∷ ls) where
   -- a blank line has no entry

@@ -1,14 +1,13 @@
 -- A text that goes on.
-use Rattle.std.proofs.Common.{◌≡◌, ℕ, ◌+◌, ◌<◌, ◌≤◌, Bool, true, false, cond, eqb, ltb, List, [], ◌∷◌, ◌++◌, length, Some, None, Ok, Err, Option, Result, sym, refl, ap, ◌∙◌, ap₂, add-zero, add_assoc, arith, length-append}
+use Rattle.std.proofs.Common.{◌≡◌, ℕ, ◌+◌, ◌≤◌, Bool, true, false, cond, eqb, ltb, List, [], ◌∷◌, ◌++◌, length, Some, None, Ok, Err, Option, Result, sym, refl, ap, ◌∙◌, ap₂, add-zero, arith, length-append}
 use Rattle.std.proofs.lemmas.Bool.{le-ltb, cond-false}
 use Rattle.model.specs.declared.refusals.Refusal.{Refusal}
 use Rattle.model.specs.Meaning.{Meaning}
 use Rattle.text.specs.Lines as said
 use Rattle.listing.specs.declared.entries.Entry.{Entry}
 use Rattle.listing.specs.declared.outcomes.Header.{Header}
-use Rattle.listing.specs.declared.outcomes.Refused.{Refused}
 use Rattle.listing.specs.Lines.{onto, lines_of, blank}
-use Rattle.listing.specs.Listing.{Page, Filled, answered, entries_from, first_filled, model_of, plays, sets, begun, opened, page, refusing, refused_for}
+use Rattle.listing.specs.Listing.{Page, Filled, answered, entries_from, first_filled, model_of, plays, sets, begun, opened, page}
 use Rattle.listing.specs.Laws.{GoesOn, StaysRefused}
 
 -- a text with more after a line end has the lines of both

@@ -1,9 +1,9 @@
 -- The page of a setting, from what its making answers.
-use Rattle.std.proofs.Common.{◌≡◌, ℕ, ◌+◌, ◌-◌, ◌*◌, ◌<◌, ◌≤◌, Bool, true, false, cond, ◌&&◌, ◌||◌, eqb, ltb, leb, ◌⊎◌, List, map, length, take, drop, is_ok, Ok, Err, Result, sym, refl, ap, ◌∙◌, inl, inr, ⊎_elim, arith, take_at}
+use Rattle.std.proofs.Common.{◌≡◌, ℕ, ◌≤◌, Bool, true, false, cond, ◌&&◌, leb, List, map, length, take, drop, is_ok, Ok, Err, Result, sym, refl, ap, ◌∙◌, arith, take_at}
 use Rattle.std.proofs.lemmas.List.{length-map, take-map}
-use Rattle.std.proofs.lemmas.Bool.{or_parts, and_from, and_cases, ltb-false, leb-false, le-leb, cond-true, cond-false, false≢true, true≢false}
+use Rattle.std.proofs.lemmas.Bool.{and_from, le-leb, cond-true}
 use Rattle.model.specs.declared.refusals.Refusal.{Refusal}
-use Rattle.model.specs.declared.refusals.Refusal.TheVariants.{PairBounds, CaseCount, ShortList, BadDate}
+use Rattle.model.specs.declared.refusals.Refusal.TheVariants.{CaseCount, BadDate}
 use Rattle.model.specs.Meaning.{Meaning}
 use Rattle.settings.specs.declared.dates.Date.{Date}
 use Rattle.settings.specs.Cases.{checked}
@@ -13,8 +13,7 @@ use Rattle.settings.specs.Readings.{date_numbers}
 use Rattle.settings.proofs.Listing.{admitted, count_step}
 use Rattle.text.specs.declared.dates.MonthDay.{MonthDay}
 use Rattle.text.specs.Dates.{month_day}
-use Rattle.listing.specs.declared.outcomes.Refused.{Refused}
-use Rattle.listing.specs.Listing.{Page, played, plays, of_refusal}
+use Rattle.listing.specs.Listing.{played, plays, of_refusal}
 
 -- a list of 1 to 4,096 is not refused; any other is
 pub never_refused : {R : Type 0} (xs : List R) (e : Refusal) → 1 ≤ length xs → length xs ≤ 4096 → Err e ≡ checked xs → ⊥

@@ -1,6 +1,6 @@
 -- Lines and blank lines, by the places of their bytes.
-use Rattle.std.proofs.Common.{◌≡◌, ℕ, zero, suc, ◌+◌, ◌<◌, Bool, true, false, cond, eqb, List, [], ◌∷◌, length, get_or, take, drop, sym, refl, ap, ◌∙◌, add-one, arith, eq-eqb, ne_eqb}
-use Rattle.listing.specs.Lines.{onto, lines_of, blank}
+use Rattle.std.proofs.Common.{◌≡◌, ℕ, zero, suc, ◌<◌, true, false, cond, eqb, List, [], ◌∷◌, length, get_or, take, drop, refl, arith, eq-eqb, ne_eqb}
+use Rattle.listing.specs.Lines.{lines_of, blank}
 
 pub line_ends : (s : List ℕ) (i : ℕ) → i < length s → ((k : ℕ) → k < i → get_or s k 0 ≡ 10 → ⊥) → get_or s i 0 ≡ 10 → lines_of s ≡ take i s ∷ lines_of (drop (suc i) s)
 line_ends [] i h none e = absurd (omega arith)

@@ -1,5 +1,5 @@
 -- What the program's values hold.
-use Rattle.std.specs.Prelude.{ℕ, List, Ok, Err, vec_items, Result}
+use Rattle.std.specs.Prelude.{Ok, Err, vec_items, Result}
 use Rattle.listing.specs.declared.openings.Opening.{Opening}
 use Rattle.listing.specs.declared.outcomes.Refused.{Refused}
 use Rattle.listing.specs.declared.sheets.Sheet.{Sheet}

@@ -9,7 +9,7 @@ use model::verdict::{Verdict, verdict_on};
 
 // How many worlds, agents, facts and quantities the model has.
 pub fn header_for<M: Model>(model: &M) -> Header
-    ensures states_the_sizes { result ≡ header_of (meaning model.now) }
+    ensures states_the_sizes { result ≡ header_of (M.meaning model.now) }
 {
     Header {
         worlds: model.width(),
@@ -21,7 +21,7 @@ pub fn header_for<M: Model>(model: &M) -> Header
 
 // The quantities' values at a world.
 pub fn quantities_for<M: Model>(model: &M, world: u16) -> Quantities
-    ensures asks_each_quantity { result ≡ quantities_at (meaning model.now) world }
+    ensures asks_each_quantity { result ≡ quantities_at (M.meaning model.now) world }
 {
     let mut values = [0; MAX_QUANTITIES];
     for quantity in 0..MAX_QUANTITIES {
@@ -35,7 +35,7 @@ pub fn quantities_for<M: Model>(model: &M, world: u16) -> Quantities
 
 // The model's verdict, as the listing says it.
 pub fn finding_for<M: Model>(model: &M) -> Outcome
-    ensures reports_the_verdict { result ≡ outcome_of (meaning model.now) (verdict_of (meaning model.now)) }
+    ensures reports_the_verdict { result ≡ outcome_of (M.meaning model.now) (verdict_of (M.meaning model.now)) }
 {
     match verdict_on(model) {
         Verdict::Contradiction => Outcome::Contradiction,

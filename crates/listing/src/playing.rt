@@ -15,7 +15,7 @@ use text::lines::{Call, read_call};
 
 // What is said of one line.
 pub fn answer_line<M: Model>(model: &M, line: &[u8]) -> Outcome
-    ensures answers_the_line { result ≡ answered (meaning model.now) (read_call line.now) }
+    ensures answers_the_line { result ≡ answered (M.meaning model.now) (read_call line.now) }
 {
     match read_call(line) {
         Ok(Call::Verdict) => finding_for(model),
@@ -27,7 +27,7 @@ pub fn answer_line<M: Model>(model: &M, line: &[u8]) -> Outcome
 fn follow<M: Model>(sheet: &mut Sheet, model: &M, first: u32, text: Option<&[u8]>)
     requires fits { first + size_left text < 2 ^ 32 }
     requires has_room { vec_len sheet.old.entries + size_left text ≤ 16385 }
-    ensures adds_the_entries { sheet.new.entries.items ≡ sheet.old.entries.items ++ entries_from (meaning model.now) first (lines_left text.entry) }
+    ensures adds_the_entries { sheet.new.entries.items ≡ sheet.old.entries.items ++ entries_from (M.meaning model.now) first (lines_left text.entry) }
     ensures keeps_the_header { sheet.new.header ≡ sheet.old.header }
 {
     let mut number = first;
@@ -47,7 +47,7 @@ fn follow<M: Model>(sheet: &mut Sheet, model: &M, first: u32, text: Option<&[u8]
 pub(crate) fn play<M: Model>(sheet: &mut Sheet, model: &M, first: u32, text: Option<&[u8]>)
     requires fits { first + size_left text < 2 ^ 32 }
     requires has_room { size_left text ≤ 16385 }
-    ensures holds_the_page { page_of sheet.new ≡ played (meaning model.now) first (lines_left text.entry) }
+    ensures holds_the_page { page_of sheet.new ≡ played (M.meaning model.now) first (lines_left text.entry) }
 {
     sheet.begin(header_for(model));
     follow(sheet, model, first, text);

@@ -1,4 +1,4 @@
-use Rattle.std.proofs.Common.{◌≡◌, arith}
+use Rattle.std.proofs.Common.{arith}
 use Rattle.std.proofs.lemmas.List.FromFn.{fill_by_all}
 use Rattle.listing.specs.Findings.{quantities_at}
 use Rattle.listing.proofs.findings.quantities_for.Goals as goal

@@ -35,6 +35,6 @@ loop-rest-preserved g c =
 
 pub returns : goal.returns
 returns g c = record {
-  adds_the_entries = ended (g.M.Model.meaning c.args.model.now) c.loop-rest.number (lines_left c.loop-rest.rest) (vec_items c.loop-rest.sheet.entries) (ap lines_left c.in-default.is) ∙ c.loop-rest.invariant.0;
+  adds_the_entries = ended (g.M.Model.meaning c.args.model.now) c.loop-rest.number (lines_left c.loop-rest.rest) (vec_items c.loop-rest.sheet.entries) (ap lines_left c.in_default.is) ∙ c.loop-rest.invariant.0;
   keeps_the_header = c.loop-rest.invariant.3;
 }

@@ -1,4 +1,4 @@
-use Rattle.std.proofs.Common.{◌≡◌, sym, ap, ◌∙◌, arith}
+use Rattle.std.proofs.Common.{sym, ap, ◌∙◌, arith}
 use Rattle.listing.specs.Lines.{lines_left, size_left}
 use Rattle.listing.proofs.Following.{passes, finds, none}
 use Rattle.listing.proofs.openings.finding.find_opening.Goals as goal
@@ -16,4 +16,4 @@ loop-rest-preserved c = (
 )
 
 pub returns : goal.returns
-returns c = record { finds_the_first = none c.loop-rest.number _ (ap lines_left c.in-default.is) ∙ c.loop-rest.invariant.0; is_small = tt }
+returns c = record { finds_the_first = none c.loop-rest.number _ (ap lines_left c.in_default.is) ∙ c.loop-rest.invariant.0; is_small = tt }
