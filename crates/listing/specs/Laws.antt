@@ -1,6 +1,6 @@
 -- Laws of listings.
 use Rattle.std.specs.Prelude.{◌≡◌, ℕ, ◌+◌, ◌≤◌, List, [], ◌∷◌, ◌++◌, length, Some, None, codes}
-use Rattle.std.specs.List.{AllByRecursion as All}
+use Rattle.std.specs.List.{AllByRecursion}
 use Rattle.model.specs.Meaning.{Meaning}
 use Rattle.listing.specs.declared.outcomes.Header.{Header}
 use Rattle.listing.specs.Lines.{lines_of}
@@ -32,4 +32,4 @@ known =
     ∷ []
 
 abbrev pub KnownSettings : Type 0
-KnownSettings = All (λ k. listing k.text ≡ k.listed) known
+KnownSettings = AllByRecursion (λ k. listing k.text ≡ k.listed) known
