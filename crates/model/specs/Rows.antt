@@ -1,5 +1,5 @@
 -- Rows of 64-bit words, in which world w is the bit of weight 2 ^ (w % 64) of word w / 64; tests on worlds, and how many pass.
-use Rattle.std.specs.Prelude.{◌≡◌, ℕ, zero, suc, ◌+◌, ◌/◌, ◌%◌, ◌^◌, Bool, true, false, cond, ◌&&◌, ◌||◌, List, length, set, ◌==◌, bit_and, bit_or, bit_xor, nat_lt, slice_index, slice_set}
+use Rattle.std.specs.Prelude.{◌≡◌, ℕ, zero, suc, ◌+◌, ◌/◌, ◌%◌, ◌^◌, Bool, true, false, cond, ◌&&◌, ◌||◌, List, length, ◌==◌, bit_and, bit_or, bit_xor, nat_lt, slice_index, slice_set}
 
 -- how many words a row of n worlds has: n / 64, rounded up
 abbrev pub words : ℕ → ℕ

@@ -40,7 +40,7 @@ pub trait Stage: Model {
 
 // Whether a row has too few words for the model's worlds.
 pub fn is_short<M: Model>(row: &[u64], model: &M) -> bool
-    ensures compares_with_the_width { result ≡ short row.now (meaning model.now) }
+    ensures compares_with_the_width { result ≡ short row.now (M.meaning model.now) }
 {
     row.len() < words_for(model.width())
 }

@@ -23,7 +23,7 @@ pub enum Verdict {
 
 // How many worlds survive.
 pub fn survivors<M: Model>(model: &M) -> u16
-    ensures counts_the_survivors { result ≡ count (meaning model.now).survives (meaning model.now).width }
+    ensures counts_the_survivors { result ≡ count (M.meaning model.now).survives (M.meaning model.now).width }
 {
     let mut total = 0;
     for world in 0..model.width() {
@@ -36,7 +36,7 @@ pub fn survivors<M: Model>(model: &M) -> u16
 
 // The lowest surviving world from a number on and below an end, or the end.
 fn lowest_between<M: Model>(model: &M, from: u16, end: u16) -> u16
-    ensures { result ≡ least (survives_from (meaning model.now) from) «end» }
+    ensures { result ≡ least (survives_from (M.meaning model.now) from) «end» }
 {
     for world in from..end {
         if model.survives(world) {
@@ -48,16 +48,16 @@ fn lowest_between<M: Model>(model: &M, from: u16, end: u16) -> u16
 
 // The lowest surviving world from a number on, or the width where there is none.
 pub fn lowest_from<M: Model>(model: &M, from: u16) -> u16
-    ensures is_the_lowest_survivor_from_there { result ≡ least (survives_from (meaning model.now) from) (meaning model.now).width }
+    ensures is_the_lowest_survivor_from_there { result ≡ least (survives_from (M.meaning model.now) from) (M.meaning model.now).width }
 {
     lowest_between(model, from, model.width())
 }
 
 // The verdict on a model of which the survivors are counted.
 fn verdict_among<M: Model>(model: &M, count: u16) -> Verdict
-    requires { count ≡ survivors_of (meaning model.now) }
-    ensures is { result ≡ verdict_of (meaning model.now) }
-    ensures names { NamesTheSurvivors (meaning model.now) result }
+    requires { count ≡ survivors_of (M.meaning model.now) }
+    ensures is { result ≡ verdict_of (M.meaning model.now) }
+    ensures names { NamesTheSurvivors (M.meaning model.now) result }
 {
     if count == 0 {
         return Verdict::Contradiction;
@@ -76,8 +76,8 @@ fn verdict_among<M: Model>(model: &M, count: u16) -> Verdict
 
 // None, one or several: what the survivors come to.
 pub fn verdict_on<M: Model>(model: &M) -> Verdict
-    ensures is_the_verdict { result ≡ verdict_of (meaning model.now) }
-    ensures names_the_survivors { NamesTheSurvivors (meaning model.now) result }
+    ensures is_the_verdict { result ≡ verdict_of (M.meaning model.now) }
+    ensures names_the_survivors { NamesTheSurvivors (M.meaning model.now) result }
 {
     verdict_among(model, survivors(model))
 }

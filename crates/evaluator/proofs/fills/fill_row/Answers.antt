@@ -5,7 +5,7 @@ use Rattle.theory.specs.Truth.{holds}
 use Rattle.evaluator.specs.Rows.{with_row, row_of}
 use Rattle.evaluator.proofs.Written.{length_row, row_none, row_yes, row_no, ready_kept, rewritten, added}
 use Rattle.evaluator.proofs.fills.fill_row.Goals as goal
-use Rattle.evaluator.proofs.fills.fill_row.Goals.{then-holds-at, else-holds-at}
+use Rattle.evaluator.proofs.fills.fill_row.Goals.{then-holds_at, else-holds_at}
 
 pub loop-world-init : goal.loop-world-init
 loop-world-init g c =
@@ -15,8 +15,8 @@ loop-world-init g c =
     (with_row c.clear_row.new.work r c.args.place (replicate r 0)) c.requires.room (length-replicate r 0) c.clear_row.ensures refl)
     ∙ ap (with_row c.clear_row.new.work r c.args.place) (sym (row_none (holds (g.M.Model.meaning c.args.model.now) (formula c.args.nodes.now c.args.place)) r))
 
-pub holds-at-requires : goal.holds-at-requires
-holds-at-requires g c =
+pub holds_at-requires : goal.holds_at-requires
+holds_at-requires g c =
     let m = g.M.Model.meaning c.args.model.now in
     let r = c.args.words in
     let p = holds m (formula c.args.nodes.now c.args.place) in
@@ -30,12 +30,12 @@ loop-world-preserved g c =
     let r = c.args.words in
     let p = holds m (formula c.args.nodes.now c.args.place) in
     let put = with_row c.clear_row.new.work r c.args.place in
-    elim c.if-holds-at.branch [
-      | then-holds-at w ↦ w.work-is
+    elim c.if-holds_at.branch [
+      | then-holds_at w ↦ w.work-is
           ∙ added m c.args.nodes.now c.args.place r c.clear_row.new.work c.loop-world.work (row_of p r c.loop-world.world) w.add_to_row.new.work c.loop-world.world
           (omega (arith, c.requires.room, c.clear_row.auto.work)) (length_row p r c.loop-world.world) c.loop-world.invariant w.add_to_row.ensures
-          ∙ ap put (row_yes p r c.loop-world.world (sym c.holds_at.ensures ∙ w.if-holds-at.true))
-      | else-holds-at w ↦ w.work-is ∙ c.loop-world.invariant ∙ ap put (row_no p r c.loop-world.world (sym c.holds_at.ensures ∙ w.if-holds-at.false))
+          ∙ ap put (row_yes p r c.loop-world.world (sym c.holds_at.ensures ∙ w.if-holds_at.true))
+      | else-holds_at w ↦ w.work-is ∙ c.loop-world.invariant ∙ ap put (row_no p r c.loop-world.world (sym c.holds_at.ensures ∙ w.if-holds_at.false))
     ]
 
 pub returns : goal.returns

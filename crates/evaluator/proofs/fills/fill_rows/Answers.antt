@@ -7,8 +7,8 @@ use Rattle.evaluator.proofs.fills.fill_rows.Goals as goal
 pub loop-place-init : goal.loop-place-init
 loop-place-init g c = rows_none (g.M.Model.meaning c.args.model.now) c.args.nodes.now c.args.words c.args.work.now
 
-pub fill-row-requires : goal.fill-row-requires
-fill-row-requires g c =
+pub fill_row-requires : goal.fill_row-requires
+fill_row-requires g c =
     ready (g.M.Model.meaning c.args.model.now) c.args.nodes.now c.loop-place.place c.args.words c.args.work.now c.loop-place.work c.requires.per_row c.loop-place.invariant
     (c.args.root + 1) c.requires.fillable c.loop-place-test.true c.loop-place.auto.work
 

@@ -5,8 +5,8 @@ use Rattle.evaluator.proofs.Nodes.{sound_earlier, rows_there}
 use Rattle.evaluator.proofs.Written.{ready_says}
 use Rattle.evaluator.proofs.fills.holds_at.Goals as goal
 
-pub is-true-requires : goal.is-true-requires
-is-true-requires g c =
+pub is_true-requires : goal.is_true-requires
+is_true-requires g c =
     rows_there c.args.place c.args.words (length c.args.work.now) (shape (get_or c.args.nodes.now c.args.place no_node)) (omega (arith, c.requires.room))
     (sound_earlier (g.M.Model.meaning c.args.model.now) c.args.place (get_or c.args.nodes.now c.args.place no_node) c.requires.sound_node)
 

@@ -9,5 +9,5 @@ pub returns-in-6 : goal.returns-in-6
 returns-in-6 g c =
     let m = g.M.Model.meaning c.args.model.now in
     c.knows_value.ensures
-    ∙ ap (λ (row : List ℕ). constant m c.args.node.b (λ v. reaches m c.args.node.a c.args.world v && bit row v)) c.row-at-in-6.ensures
+    ∙ ap (λ (row : List ℕ). constant m c.args.node.b (λ v. reaches m c.args.node.a c.args.world v && bit row v)) c.row_at-in-6.ensures
     ∙ says_kind m c.args.node 6 (row_bit c.args.work.now c.args.words) c.args.world c.in-6.is

@@ -11,7 +11,7 @@ returns-then-seen-here g c =
     let both = and_parts c.loop-other.seen (not (eqb c.quantity-here.result c.loop-other.value)) c.if-seen-here.true in
     seen_two m c.args.quantity (λ v. reaches m c.args.agent c.args.world v && bit c.args.row.now v)
     c.loop-other.other c.loop-other.seen c.loop-other.value c.loop-other.invariant (omega arith)
-    (sym (ap₂ (λ (x y : Bool). x && y) c.is_reached.ensures c.has_world.ensures.is_the_bit) ∙ c.if-is-reached-has-world.true)
+    (sym (ap₂ (λ (x y : Bool). x && y) c.is_reached.ensures c.has_world.ensures.is_the_bit) ∙ c.if-is_reached-has_world.true)
     both.0 (λ e. eqb-false c.quantity-here.result c.loop-other.value (not-true (eqb c.quantity-here.result c.loop-other.value) both.1) (c.quantity-here.ensures ∙ e))
 
 pub returns : goal.returns

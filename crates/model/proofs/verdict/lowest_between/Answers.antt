@@ -1,4 +1,4 @@
-use Rattle.std.proofs.Common.{leb, sym, refl, ◌∙◌, inl, inr, arith}
+use Rattle.std.proofs.Common.{leb, sym, refl, inl, inr, arith}
 use Rattle.std.proofs.lemmas.Bool.{and_from, le-leb}
 use Rattle.model.specs.Verdict.{survives_from}
 use Rattle.model.proofs.Counts.{least_is}

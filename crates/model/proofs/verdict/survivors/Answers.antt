@@ -6,8 +6,8 @@ use Rattle.model.proofs.verdict.survivors.Goals.{then-survives, else-survives}
 pub loop-world-init : goal.loop-world-init
 loop-world-init g c = sym (count_none (g.M.Model.meaning c.args.model.now).survives)
 
-pub overflow-add-total : goal.overflow-add-total
-overflow-add-total g c = omega (arith, count_le (g.M.Model.meaning c.args.model.now).survives c.loop-world.world)
+pub overflow_add-total : goal.overflow_add-total
+overflow_add-total g c = omega (arith, count_le (g.M.Model.meaning c.args.model.now).survives c.loop-world.world)
 
 pub loop-world-preserved : goal.loop-world-preserved
 loop-world-preserved g c =

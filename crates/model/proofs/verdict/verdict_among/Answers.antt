@@ -10,19 +10,19 @@ returns-then-count-eq0 g c =
 pub returns-then-count-eq1 : goal.returns-then-count-eq1
 returns-then-count-eq1 g c =
     let x = right_one (g.M.Model.meaning c.args.model.now) (g.M.Model.lawful c.args.model.now) c.args.count c.requires c.if-count-eq0.false
-    c.lowest-from-lowest.result c.lowest-from-lowest.ensures.is_the_lowest_survivor_from_there c.if-count-eq1.true in
+    c.lowest_from-lowest.result c.lowest_from-lowest.ensures.is_the_lowest_survivor_from_there c.if-count-eq1.true in
     record { is = x.is; names = x.names }
 
-pub overflow-add-lowest : goal.overflow-add-lowest
-overflow-add-lowest g c =
+pub overflow_add-lowest : goal.overflow_add-lowest
+overflow_add-lowest g c =
     omega (
       arith,
-      c.lowest-from-lowest.ensures.is_the_lowest_survivor_from_there,
+      c.lowest_from-lowest.ensures.is_the_lowest_survivor_from_there,
       lowest_below (g.M.Model.meaning c.args.model.now) (g.M.Model.lawful c.args.model.now) (λ z. c.if-count-eq0.false (c.requires ∙ z)),
     )
 
 pub returns : goal.returns
 returns g c =
     let x = right_more (g.M.Model.meaning c.args.model.now) (g.M.Model.lawful c.args.model.now) c.args.count c.requires c.if-count-eq0.false
-    c.lowest-from-lowest.result c.lowest-from-second.result c.lowest-from-lowest.ensures.is_the_lowest_survivor_from_there c.lowest-from-second.ensures.is_the_lowest_survivor_from_there c.if-count-eq1.false in
+    c.lowest_from-lowest.result c.lowest_from-second.result c.lowest_from-lowest.ensures.is_the_lowest_survivor_from_there c.lowest_from-second.ensures.is_the_lowest_survivor_from_there c.if-count-eq1.false in
     record { is = x.is; names = x.names }

@@ -16,16 +16,16 @@ pub loop-step-preserved : goal.loop-step-preserved
 loop-step-preserved g c =
     let s = stage_of g.S.Model.meaning g.S.Stage.takes c.args.left.now in
     let s₁ = stage_of g.S.Model.meaning g.S.Stage.takes c.loop-step.left in
-    let s₂ = stage_of g.S.Model.meaning g.S.Stage.takes c.take-step-first.new.stage in
+    let s₂ = stage_of g.S.Model.meaning g.S.Stage.takes c.take_step-first.new.stage in
     let t = stage_of g.T.Model.meaning g.T.Stage.takes c.args.right.now in
     let t₁ = stage_of g.T.Model.meaning g.T.Stage.takes c.loop-step.right in
-    let t₂ = stage_of g.T.Model.meaning g.T.Stage.takes c.take-step-second.new.stage in (
-      run_more c.args.steps.now c.loop-step.step-index _ c.loop-step-test.true s s₁ s₂ c.loop-step.invariant.0 c.take-step-first.ensures.takes_the_step.leaves,
-      run_more c.args.steps.now c.loop-step.step-index _ c.loop-step-test.true t t₁ t₂ c.loop-step.invariant.1 c.take-step-second.ensures.takes_the_step.leaves,
+    let t₂ = stage_of g.T.Model.meaning g.T.Stage.takes c.take_step-second.new.stage in (
+      run_more c.args.steps.now c.loop-step.step-index _ c.loop-step-test.true s s₁ s₂ c.loop-step.invariant.0 c.take_step-first.ensures.takes_the_step.leaves,
+      run_more c.args.steps.now c.loop-step.step-index _ c.loop-step-test.true t t₁ t₂ c.loop-step.invariant.1 c.take_step-second.ensures.takes_the_step.leaves,
       alike_more c.args.steps.now c.loop-step.step-index _ c.loop-step-test.true s s₁ t t₁ c.loop-step.same c.reported.result c.reported-in-loop-step.result
           c.loop-step.invariant.0 c.loop-step.invariant.1 c.loop-step.invariant.2
-          (c.reported.ensures.is_the_number ∙ ap reported c.take-step-first.ensures.takes_the_step.answers)
-          (c.reported-in-loop-step.ensures.is_the_number ∙ ap reported c.take-step-second.ensures.takes_the_step.answers),
+          (c.reported.ensures.is_the_number ∙ ap reported c.take_step-first.ensures.takes_the_step.answers)
+          (c.reported-in-loop-step.ensures.is_the_number ∙ ap reported c.take_step-second.ensures.takes_the_step.answers),
     )
 
 pub returns : goal.returns

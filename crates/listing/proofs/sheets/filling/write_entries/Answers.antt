@@ -12,7 +12,7 @@ pub loop-entry-preserved : goal.loop-entry-preserved
 loop-entry-preserved g c plain =
     let x = c.loop-entry.invariant plain in
     has_written_of_eq g.W.Write.write_str_gives _ _ _ _ (sym (printed_more c.args.entries.now c.loop-entry.entry-index (omega arith)))
-    (has_written_append g.W.Write.write_str_gives _ _ _ _ _ x (c.in-ok-write-entry.ensures x.plain refl))
+    (has_written_append g.W.Write.write_str_gives _ _ _ _ _ x (c.in_ok-write_entry.ensures x.plain refl))
 
 pub returns : goal.returns
 returns g c plain e = has_written_of_eq g.W.Write.write_str_gives _ _ _ _ (ap printed (take_all c.loop-entry.entry-index c.args.entries.now (omega arith))) (c.loop-entry.invariant plain)

@@ -13,13 +13,13 @@ use Rattle.listing.proofs.workspaces.opening.fill_dates.Goals as goal
 abbrev first : MonthDay
 first = record { month = 0; day = 0 }
 
-pub returns-in-err-new : goal.returns-in-err-new
-returns-in-err-new c =
+pub returns-in_err-new : goal.returns-in_err-new
+returns-in_err-new c =
     let days = c.args.days.now in
     let i = c.loop-day.day-index in
-    let bad = no_date (month_day (get_or days i first)) c.in-err-new.field-0.0 c.in-err-new.ensures.is_of_its_numbers in
+    let bad = no_date (month_day (get_or days i first)) c.in_err-new.field-0.0 c.in_err-new.ensures.is_of_its_numbers in
     let none = c.loop-day.invariant.1 ∙ dates_bad days i first c.loop-day-test.true bad.0 in
-    let p = err_from_is_err_and c.from-residual.result c.from-residual.ensures.1 in
+    let p = err_from_is_err_and c.from_residual.result c.from_residual.ensures.1 in
     record {
       keeps_its_room = c.loop-day.invariant.3 ∙ c.clear.ensures.capacity;
       tells_dates = rw (p.1, p.2) (ap Err bad.1 ∙ sym (cond-false (are_dates (map month_day days)) (Ok tt) (Err BadDate) none));
@@ -30,11 +30,11 @@ pub loop-day-preserved : goal.loop-day-preserved
 loop-day-preserved c =
     let days = c.args.days.now in
     let i = c.loop-day.day-index in
-    let good = made_date (month_day (get_or days i first)) _ c.in-ok-new.ensures.is_of_its_numbers in (
-      dates_pushed days i first _ _ _ c.loop-day-test.true c.loop-day.invariant.0 good.1 c.push-reserved.ensures.items,
+    let good = made_date (month_day (get_or days i first)) _ c.in_ok-new.ensures.is_of_its_numbers in (
+      dates_pushed days i first _ _ _ c.loop-day-test.true c.loop-day.invariant.0 good.1 c.push_reserved.ensures.items,
       c.loop-day.invariant.1 ∙ dates_more days i first c.loop-day-test.true good.0,
       omega arith,
-      c.push-reserved.ensures.capacity ∙ c.loop-day.invariant.3,
+      c.push_reserved.ensures.capacity ∙ c.loop-day.invariant.3,
     )
 
 pub returns : goal.returns
