@@ -19,7 +19,7 @@ fn is_usable(len: usize, used: usize, root: usize) -> bool
 
 // Whether the node at that place names only what is there.
 fn is_sound<M: Model>(model: &M, place: usize, node: Node) -> bool
-    ensures { result ≡ sound (meaning model.now) place node }
+    ensures { result ≡ sound (M.meaning model.now) place node }
 {
     match node.kind {
         0 => true,
@@ -38,7 +38,7 @@ fn is_sound<M: Model>(model: &M, place: usize, node: Node) -> bool
 // The lowest used node that is not sound, or their number.
 fn first_unsound<M: Model>(model: &M, nodes: &[Node], used: usize) -> usize
     requires { used ≤ length nodes.now }
-    ensures { result ≡ first_bad (meaning model.now) nodes.now used }
+    ensures { result ≡ first_bad (M.meaning model.now) nodes.now used }
 {
     for place in 0..used {
         if !is_sound(model, place, nodes[place]) {
@@ -56,7 +56,7 @@ fn first_cause<M: Model>(
     root: usize,
     room: usize,
 ) -> Result<(), Refusal>
-    ensures { result ≡ first (faults (meaning model.now) nodes.now used root room) tt }
+    ensures { result ≡ first (faults (M.meaning model.now) nodes.now used root room) tt }
 {
     if !is_usable(nodes.len(), used, root) {
         return Err(Refusal::NodeCount);
@@ -79,8 +79,8 @@ pub fn check<M: Model>(
     root: usize,
     room: usize,
 ) -> Result<(), Refusal>
-    ensures is { result ≡ first (faults (meaning model.now) nodes.now used root room) tt }
-    ensures accepts { result ≡ Ok tt → Fillable (meaning model.now) nodes.now (root + 1) room }
+    ensures is { result ≡ first (faults (M.meaning model.now) nodes.now used root room) tt }
+    ensures accepts { result ≡ Ok tt → Fillable (M.meaning model.now) nodes.now (root + 1) room }
 {
     first_cause(model, nodes, used, root, room)
 }

@@ -21,16 +21,16 @@ fn holds_at<M: Model>(
     words: usize,
     world: u16,
 ) -> bool
-    requires { Ready (meaning model.now) nodes.now place words work.now }
-    ensures { result ≡ holds (meaning model.now) (formula nodes.now place) world }
+    requires { Ready (M.meaning model.now) nodes.now place words work.now }
+    ensures { result ≡ holds (M.meaning model.now) (formula nodes.now place) world }
 {
     model.survives(world) && is_true(model, nodes[place], work, words, world)
 }
 
 // Writes the row of a node.
 fn fill_row<M: Model>(model: &M, nodes: &[Node], place: usize, work: &mut [u64], words: usize)
-    requires { Ready (meaning model.now) nodes.now place words work.old }
-    ensures { work.new ≡ with_row work.old words place (node_row (meaning model.now) nodes.now place) }
+    requires { Ready (M.meaning model.now) nodes.now place words work.old }
+    ensures { work.new ≡ with_row work.old words place (node_row (M.meaning model.now) nodes.now place) }
 {
     clear_row(work, words, place);
     for world in 0..model.width() {
@@ -42,11 +42,11 @@ fn fill_row<M: Model>(model: &M, nodes: &[Node], place: usize, work: &mut [u64],
 
 // Writes the rows of nodes 0 to root.
 pub fn fill_rows<M: Model>(model: &M, nodes: &[Node], root: usize, work: &mut [u64], words: usize)
-    requires fillable { Fillable (meaning model.now) nodes.now (root + 1) (length work.old) }
-    requires per_row { words ≡ words_of (meaning model.now).width }
-    ensures writes { work.new ≡ rows_of (meaning model.now) nodes.now (root + 1) ++ drop ((root + 1) * words) work.old }
-    ensures counts { count (row_bit work.new words root) (meaning model.now).width ≡ count (holds (meaning model.now) (formula nodes.now root)) (meaning model.now).width }
-    ensures tells { MarksTheTruth (meaning model.now) nodes.now root work.new }
+    requires fillable { Fillable (M.meaning model.now) nodes.now (root + 1) (length work.old) }
+    requires per_row { words ≡ words_of (M.meaning model.now).width }
+    ensures writes { work.new ≡ rows_of (M.meaning model.now) nodes.now (root + 1) ++ drop ((root + 1) * words) work.old }
+    ensures counts { count (row_bit work.new words root) (M.meaning model.now).width ≡ count (holds (M.meaning model.now) (formula nodes.now root)) (M.meaning model.now).width }
+    ensures tells { MarksTheTruth (M.meaning model.now) nodes.now root work.new }
 {
     for place in 0..root + 1 {
         fill_row(model, nodes, place, work, words);

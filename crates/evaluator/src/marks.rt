@@ -27,9 +27,9 @@ pub fn mark<M: Model>(
     root: usize,
     work: &mut [u64],
 ) -> Result<Marked, Refusal>
-    ensures answers_by_the_rules { result ≡ answer (meaning model.now) nodes.now used root (length work.old) }
-    ensures writes_the_rows { work.new ≡ area (meaning model.now) nodes.now used root work.old }
-    ensures marks_the_truth { (m : Marked) → result ≡ Ok m → MarksTheTruth (meaning model.now) nodes.now root work.new }
+    ensures answers_by_the_rules { result ≡ answer (M.meaning model.now) nodes.now used root (length work.old) }
+    ensures writes_the_rows { work.new ≡ area (M.meaning model.now) nodes.now used root work.old }
+    ensures marks_the_truth { (m : Marked) → result ≡ Ok m → MarksTheTruth (M.meaning model.now) nodes.now root work.new }
 {
     check(model, nodes, used, root, work.len())?;
     let width = model.width();

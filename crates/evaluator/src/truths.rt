@@ -12,14 +12,14 @@ use theory::node::Node;
 
 // Whether the world survives and the agent does not distinguish it from another.
 fn is_reached<M: Model>(model: &M, agent: u16, from: u16, world: u16) -> bool
-    ensures { result ≡ reaches (meaning model.now) agent from world }
+    ensures { result ≡ reaches (M.meaning model.now) agent from world }
 {
     model.survives(world) & !model.distinguishes(agent, from, world)
 }
 
 // Whether the row has every world that the agent reaches.
 fn knows<M: Model>(model: &M, agent: u16, world: u16, row: &[u64]) -> bool
-    ensures { result ≡ everywhere (meaning model.now) agent world (bit row.now) }
+    ensures { result ≡ everywhere (M.meaning model.now) agent world (bit row.now) }
 {
     for other in 0..model.width() {
         if is_reached(model, agent, world, other) & !has_world(row, other) {
@@ -31,7 +31,7 @@ fn knows<M: Model>(model: &M, agent: u16, world: u16, row: &[u64]) -> bool
 
 // Whether the quantity is equal at all worlds of the row that the agent reaches.
 fn knows_value<M: Model>(model: &M, agent: u16, quantity: u16, world: u16, row: &[u64]) -> bool
-    ensures { result ≡ constant (meaning model.now) quantity (λ v. reaches (meaning model.now) agent world v && bit row.now v) }
+    ensures { result ≡ constant (M.meaning model.now) quantity (λ v. reaches (M.meaning model.now) agent world v && bit row.now v) }
 {
     let mut seen = false;
     let mut value = 0;
@@ -51,7 +51,7 @@ fn knows_value<M: Model>(model: &M, agent: u16, quantity: u16, world: u16, row: 
 // Whether a node is true at a surviving world, where the rows of the nodes that it names stand in the work area.
 pub fn is_true<M: Model>(model: &M, node: Node, work: &[u64], words: usize, world: u16) -> bool
     requires { RowsThere (shape node) words (length work.now) }
-    ensures { result ≡ says (meaning model.now) (row_bit work.now words) (shape node) world }
+    ensures { result ≡ says (M.meaning model.now) (row_bit work.now words) (shape node) world }
 {
     match node.kind {
         1 => model.fact(node.a, world),

@@ -9,7 +9,7 @@ use Rattle.listing.specs.declared.outcomes.Header.{Header}
 use Rattle.listing.specs.declared.outcomes.Refused.{Refused}
 use Rattle.listing.specs.Lines.{onto, lines_of, blank}
 use Rattle.listing.specs.Listing.{Page, Filled, answered, entries_from, first_filled, model_of, plays, sets, begun, opened, page, refusing, refused_for}
-use Rattle.listing.specs.Laws.{Goes_on, StaysRefused}
+use Rattle.listing.specs.Laws.{GoesOn, StaysRefused}
 
 -- a text with more after a line end has the lines of both
 lines_both : (text more : List ℕ) → lines_of (text ++ 10 ∷ more) ≡ lines_of text ++ lines_of more
@@ -121,7 +121,7 @@ module _ (text more : List ℕ) (short : length (text ++ 10 ∷ more) ≤ 16384)
     stays : (page text).header ≡ None → page (text ++ 10 ∷ more) ≡ page text
     stays e = after ∙ sets_stays (x.number + 1) x.rest (lines_of more) x.number (said.read_setting x.line) (ap (λ (p : Page). p.header) (sym before) ∙ e) ∙ sym before
 
-pub goes_on : Goes_on
+pub goes_on : GoesOn
 goes_on text more h short e = go (first_filled 1 (lines_of text)) refl
   where
     go : (o : Option Filled) → first_filled 1 (lines_of text) ≡ o

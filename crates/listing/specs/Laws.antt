@@ -7,8 +7,8 @@ use Rattle.listing.specs.Lines.{lines_of}
 use Rattle.listing.specs.Listing.{Filled, entries_from, first_filled, page, listing}
 
 -- a text whose setting was accepted goes on: the lines after it add their entries, and all before stays
-abbrev pub Goes_on : Type 0
-Goes_on = (text more : List ℕ) (h : Header) → length (text ++ 10 ∷ more) ≤ 16384 → (page text).header ≡ Some h
+abbrev pub GoesOn : Type 0
+GoesOn = (text more : List ℕ) (h : Header) → length (text ++ 10 ∷ more) ≤ 16384 → (page text).header ≡ Some h
     → (m : Meaning) × (page (text ++ 10 ∷ more) ≡ record { header = Some h; entries = (page text).entries ++ entries_from m (1 + length (lines_of text)) (lines_of more) })
 
 -- a text whose setting was refused stays refused, whatever comes after it

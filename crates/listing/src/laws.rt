@@ -1,9 +1,9 @@
 // What holds of every listing, and some listings that are known.
-ghost use Rattle.listing.specs.Laws.{Goes_on, StaysRefused, KnownSettings};
+ghost use Rattle.listing.specs.Laws.{GoesOn, StaysRefused, KnownSettings};
 
 // What stands in a listing stays there when the text goes on.
 pub fn listings_go_on() -> u8
-    ensures goes_on { Goes_on }
+    ensures goes_on { GoesOn }
     ensures stays_refused { StaysRefused }
 {
     0

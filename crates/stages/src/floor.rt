@@ -4,7 +4,7 @@ ghost use Rattle.model.specs.declared.refusals.Refusal.TheVariants.{ShortRow, No
 ghost use Rattle.model.specs.Stages.{stage_of};
 ghost use Rattle.stages.specs.Layers.{floor_stage, floor_meaning, floor_takes};
 
-use model::questions::Model;
+use model::questions::Model as PuzzleModel;
 use model::refusals::Refusal;
 use model::stages::{Stage, is_short};
 
@@ -13,7 +13,7 @@ pub struct Floor<M> {
     model: M,
 }
 
-impl<M: Model> Floor<M> {
+impl<M: PuzzleModel> Floor<M> {
     // The model as a stage that does not hear, takes no look and does not put.
     pub fn new(model: M) -> Floor<M>
         ensures is_the_model_without_steps { stage_of (floor_meaning M.Model.meaning) floor_takes result ≡ floor_stage (M.Model.meaning model) }
@@ -22,7 +22,7 @@ impl<M: Model> Floor<M> {
     }
 }
 
-pub impl<M: Model> Model for Floor<M> as FloorModel {
+impl<M: PuzzleModel> PuzzleModel for Floor<M> {
     ghost meaning = { floor_meaning M.Model.meaning };
 
     ghost lawful = { λ f. M.Model.lawful f.model };
@@ -60,7 +60,7 @@ pub impl<M: Model> Model for Floor<M> as FloorModel {
     }
 }
 
-impl<M: Model> Stage for Floor<M> {
+impl<M: PuzzleModel> Stage for Floor<M> {
     ghost takes = { floor_takes };
 
     fn hears(&self) -> bool {

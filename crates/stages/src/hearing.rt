@@ -6,7 +6,7 @@ ghost use Rattle.model.specs.Stages.{stage_of, taken};
 ghost use Rattle.model.proofs.Steps.{lawful_heard};
 ghost use Rattle.stages.specs.Layers.{hearing_stage, hearing_meaning, hearing_takes};
 
-use model::questions::Model;
+use model::questions::Model as PuzzleModel;
 use model::refusals::Refusal;
 use model::rows::{MAX_WORDS, has_world, whole_row};
 use model::stages::{Stage, is_short};
@@ -58,7 +58,7 @@ impl<S: Stage> HearingLayer<S> {
     }
 }
 
-pub impl<S: Stage> Model for HearingLayer<S> as HearingModel {
+impl<S: Stage> PuzzleModel for HearingLayer<S> {
     ghost meaning = { hearing_meaning S.Model.meaning };
 
     ghost lawful = { λ l. lawful_heard (S.Model.meaning l.below) (bit l.row) (S.Model.lawful l.below) };

@@ -8,7 +8,7 @@ ghost use Rattle.settings.specs.FairCases.{lawful_listed};
 
 use crate::cases::{CaseList, Cases, MAX_CASES};
 use crate::told::Told;
-use model::questions::Model;
+use model::questions::Model as PuzzleModel;
 use model::refusals::Refusal;
 
 impl<'a, R> CaseList<'a, R> {
@@ -52,7 +52,7 @@ impl<'a, R: Told> Cases<'a, R> {
     }
 }
 
-pub impl<'a, R: Told> Model for Cases<'a, R> as CasesModel {
+impl<'a, R: Told> PuzzleModel for Cases<'a, R> {
     ghost meaning = { λ c. set_up (listed R.Told.agents R.Told.quantities R.Told.told R.Told.amount (records c.list)) };
 
     ghost lawful = { λ c. lawful_listed R.Told.kind R.Told.told R.Told.amount R.Told.small (records c.list) c.list.some c.list.few };

@@ -9,7 +9,7 @@ ghost use Rattle.settings.specs.Views.{view_of};
 
 use crate::hats::{Hats, MAX_AGENTS};
 use crate::sight::Sight;
-use model::questions::Model;
+use model::questions::Model as PuzzleModel;
 use model::refusals::Refusal;
 
 impl Hats {
@@ -62,7 +62,7 @@ fn true_facts(world: u16, facts: u16) -> u16
     world.count_ones() as u16
 }
 
-pub impl Model for Hats as HatsModel {
+impl PuzzleModel for Hats {
     ghost meaning = { hats_meaning };
 
     ghost lawful = { λ h. lawful_hats h.sight h.agents h.some h.few };

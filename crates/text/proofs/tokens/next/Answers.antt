@@ -10,8 +10,8 @@ returns-then-at-line c =
       fine = omega arith;
     }
 
-pub token-at-requires : goal.token-at-requires
-token-at-requires c =
+pub token_at-requires : goal.token_at-requires
+token_at-requires c =
     let inside : c.args.from + c.run.result < length c.args.line.now = omega arith in
     (inside, (c.requires.1, no_space c.args.line.now c.args.from c.run.result c.run.ensures.run inside))
 
