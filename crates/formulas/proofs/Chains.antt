@@ -1,5 +1,5 @@
 -- Steps of a chain of operands.
-use Rattle.std.proofs.Common.{◌≡◌, ℕ, zero, suc, ◌+◌, ◌-◌, ◌<◌, ◌≤◌, min, List, [], ◌∷◌, length, drop, Some, None, Option, sym, refl, ap, ◌∙◌, sub-one, arith}
+use Rattle.std.proofs.Common.{◌≡◌, ℕ, zero, suc, ◌+◌, ◌-◌, ◌<◌, ◌≤◌, min, List, [], ◌∷◌, length, drop, Some, None, Option, ap, ◌∙◌, arith}
 use Rattle.lexer.specs.declared.tokens.Sign.{Sign}
 use Rattle.lexer.specs.Faults.{Fault}
 use Rattle.std.proofs.lemmas.Bool.{cond_both}
@@ -7,10 +7,10 @@ use Rattle.lexer.specs.declared.tokens.Class.TheVariants.{Space}
 use Rattle.lexer.specs.Bytes.{belongs}
 use Rattle.lexer.specs.Tokens.{Placed, piece_at, more, scan, pieces_from}
 use Rattle.formulas.specs.Sentences.{Sentence}
-use Rattle.formulas.specs.Reading.{Outcome, fault, parsed, Reader, bind, perhaps, at}
-use Rattle.formulas.specs.Readers.{chain, joined, sentence_of}
+use Rattle.formulas.specs.Reading.{fault, parsed, Reader, bind, perhaps}
+use Rattle.formulas.specs.Readers.{chain}
 use Rattle.formulas.specs.Stores.{Store, write}
-use Rattle.formulas.specs.Steps.{Wrote, Keeps}
+use Rattle.formulas.specs.Steps.{Keeps}
 
 module _ (s : Sign) (join : Sentence → Sentence → Sentence) (operand : Reader Sentence) where
   abbrev go : ℕ → Sentence → Option ℕ → Reader Sentence

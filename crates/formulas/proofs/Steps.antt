@@ -1,5 +1,5 @@
 -- Steps of the readers of formulas.
-use Rattle.std.proofs.Common.{◌≡◌, ℕ, zero, suc, ◌+◌, ◌-◌, ◌<◌, ◌≤◌, ◌⊎◌, List, [], ◌∷◌, length, Some, None, Option, Result, sym, refl, ap, ◌∙◌, subst, inl, inr, ⊎_elim, arith, Bor, MatchResult}
+use Rattle.std.proofs.Common.{◌≡◌, ℕ, zero, suc, ◌-◌, ◌<◌, ◌≤◌, ◌⊎◌, List, ◌∷◌, length, Some, None, Option, Result, sym, refl, ap, ◌∙◌, subst, ⊎_elim, arith, Bor, MatchResult}
 use Rattle.lexer.specs.declared.tokens.Sign.{Sign}
 use Rattle.lexer.specs.declared.tokens.Sign.TheVariants as mark
 use Rattle.lexer.specs.declared.tokens.Lexeme.{Lexeme}
@@ -9,13 +9,13 @@ use Rattle.std.proofs.lemmas.Result.{MatchResult-weaker}
 use Rattle.theory.specs.declared.node.Node.{Node}
 use Rattle.formulas.specs.declared.faults.FormulaFault.{FormulaFault}
 use Rattle.lexer.specs.Faults.{Fault}
-use Rattle.lexer.specs.Tokens.{Piece, word, number, done, sign, bad, Placed, pieces_from}
+use Rattle.lexer.specs.Tokens.{sign, bad, Placed, pieces_from}
 use Rattle.formulas.specs.Faults.{of_formula}
-use Rattle.lexer.specs.Steps.{Fine, piece_of, placed, unless_end, Next, Onward}
+use Rattle.lexer.specs.Steps.{Fine, piece_of, unless_end, Next, Onward}
 use Rattle.formulas.specs.Steps.{Gave, Wrote, Keeps}
 use Rattle.formulas.specs.Reading.{a_number, the_sign, Outcome, fault, parsed, Reader, bind, at, perhaps}
 use Rattle.formulas.specs.Readers.{value_in, chain, joined, sentence_of, term, term_with, term_in, inner}
-use Rattle.formulas.specs.Sentences.{truth, values, knows, neg, Sentence, both, either}
+use Rattle.formulas.specs.Sentences.{Sentence, both, either}
 use Rattle.formulas.specs.Stores.{Store, write, put, last, node, or_nodes}
 use Rattle.formulas.proofs.Keep.{keeps_refl, keeps_trans}
 use Rattle.formulas.proofs.Chains.{Chained, Going, chain_stop, chain_fault, chain_more, chain_breaks, pieces_some}

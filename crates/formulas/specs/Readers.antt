@@ -3,7 +3,7 @@ use Rattle.std.specs.Prelude.{ℕ, zero, suc, cond, List, [], ◌∷◌, length,
 use Rattle.std.specs.Str.{bytes_eq}
 use Rattle.lexer.specs.declared.tokens.Sign.{Sign}
 use Rattle.lexer.specs.declared.tokens.Sign.TheVariants.{Not, And, Or, Open, Close, Dot, Slash, Equals, Minus, Knows, Value}
-use Rattle.lexer.specs.Tokens.{Piece, number, word, sign, bad, done, Placed}
+use Rattle.lexer.specs.Tokens.{Piece, number, word, sign, bad, done}
 use Rattle.formulas.specs.declared.words.Keyword.{Keyword}
 use Rattle.formulas.specs.declared.words.Keyword.TheVariants as key
 use Rattle.formulas.specs.Reading.{Outcome, fault, parsed, Reader, bind, at, a_number, perhaps, the_sign}

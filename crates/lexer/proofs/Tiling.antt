@@ -7,7 +7,7 @@ use Rattle.lexer.specs.declared.tokens.Class.TheVariants.{Space, Digit, Letter}
 use Rattle.lexer.specs.declared.tokens.Sign.{Sign}
 use Rattle.lexer.specs.declared.tokens.Sign.TheVariants.{Not, And, Or, Open, Close, Dot, Slash, Equals, Minus, Knows, Value}
 use Rattle.lexer.specs.Bytes.{belongs, sign_of}
-use Rattle.lexer.specs.Tokens.{number, word, bad, Placed, piece_at, numeral, mark, more, scan, pieces_from}
+use Rattle.lexer.specs.Tokens.{number, word, bad, Placed, piece_at, numeral, mark, more, scan}
 use Rattle.lexer.specs.Tiles.{byte_of, bytes_of, laid_out, Good, AllGood, TokensTile}
 use Rattle.lexer.proofs.Picks.{chosen, none}
 use Rattle.lexer.proofs.Scans.{pieces_at}

@@ -1,5 +1,5 @@
 -- What is answered to a call line, and what the node list then holds.
-use Rattle.std.proofs.Common.{◌≡◌, ℕ, true, false, cond, List, [], length, take, sym, ap, ◌∙◌, arith}
+use Rattle.std.proofs.Common.{◌≡◌, ℕ, true, false, List, [], length, take, sym, ap, ◌∙◌, arith}
 use Rattle.std.proofs.lemmas.List.{take_all}
 use Rattle.std.proofs.lemmas.Bool.{cond-true, cond-false}
 use Rattle.theory.specs.declared.node.Node.{Node}

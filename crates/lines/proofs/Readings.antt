@@ -1,5 +1,5 @@
 -- Steps of the readers.
-use Rattle.std.proofs.Common.{◌≡◌, ℕ, List, [], ◌∷◌, ◌++◌, Some, None, Option, sym, refl, ap, ◌∙◌, append_assoc}
+use Rattle.std.proofs.Common.{◌≡◌, ℕ, List, [], ◌∷◌, ◌++◌, Some, None, Option, sym, refl, ap, append_assoc}
 use Rattle.lexer.specs.Tokens.{Piece, number, word, sign, bad, done, Placed}
 use Rattle.formulas.specs.Reading.{Outcome, fault, parsed, Reader, bind, at, number_or, a_number, number_if}
 use Rattle.lines.specs.Reading.{before, dates_after, the_dates}

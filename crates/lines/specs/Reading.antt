@@ -1,7 +1,7 @@
 -- How the parts of a line are read.
 use Rattle.std.specs.Prelude.{ℕ, List, [], ◌∷◌, ◌++◌, Some, None, Option}
-use Rattle.lexer.specs.Tokens.{Piece, number, word, sign, bad, done, Placed}
-use Rattle.formulas.specs.Reading.{Outcome, fault, parsed, Reader, bind, at, number_or, a_number, the_end}
+use Rattle.lexer.specs.Tokens.{Piece, number, word, sign, bad, done}
+use Rattle.formulas.specs.Reading.{Outcome, parsed, Reader, bind, at, number_or, a_number, the_end}
 
 -- a number with nothing after it
 abbrev pub last_number : Reader ℕ

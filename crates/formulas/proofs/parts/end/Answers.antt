@@ -2,9 +2,9 @@ use Rattle.std.proofs.Common.{rules}
 use Rattle.formulas.specs.Reading.{the_end}
 use Rattle.formulas.proofs.parts.end.Goals as goal
 
-pub returns-in-err-x : goal.returns-in-err-x
+pub returns-in_err-x : goal.returns-in_err-x
 unfolding the_end
-returns-in-err-x c = search rules
+returns-in_err-x c = search rules
 
 pub returns-in-End : goal.returns-in-End
 unfolding the_end

@@ -2,13 +2,13 @@ use Rattle.std.proofs.Common.{rules}
 use Rattle.formulas.specs.Reading.{the_sign}
 use Rattle.formulas.proofs.parts.expect_sign.Goals as goal
 
-pub returns-in-err-x : goal.returns-in-err-x
+pub returns-in_err-x : goal.returns-in_err-x
 unfolding the_sign
-returns-in-err-x c = search rules
+returns-in_err-x c = search rules
 
 pub returns-then-eq : goal.returns-then-eq
 unfolding the_sign
-returns-then-eq c = (c.in-ok-x.x.column, search rules)
+returns-then-eq c = (c.in_ok-x.x.column, search rules)
 
 pub returns-else-eq : goal.returns-else-eq
 unfolding the_sign

@@ -2,9 +2,9 @@ use Rattle.std.proofs.Common.{rules}
 use Rattle.formulas.specs.Reading.{number_if}
 use Rattle.formulas.proofs.parts.number_if.Goals as goal
 
-pub returns-in-err-x : goal.returns-in-err-x
+pub returns-in_err-x : goal.returns-in_err-x
 unfolding number_if
-returns-in-err-x c = search rules
+returns-in_err-x c = search rules
 
 pub returns-in-Some : goal.returns-in-Some
 unfolding number_if

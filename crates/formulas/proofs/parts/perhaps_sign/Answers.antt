@@ -2,9 +2,9 @@ use Rattle.std.proofs.Common.{rules}
 use Rattle.formulas.specs.Reading.{perhaps}
 use Rattle.formulas.proofs.parts.perhaps_sign.Goals as goal
 
-pub returns-in-err-x : goal.returns-in-err-x
+pub returns-in_err-x : goal.returns-in_err-x
 unfolding perhaps
-returns-in-err-x c = search rules
+returns-in_err-x c = search rules
 
 pub returns-then-eq : goal.returns-then-eq
 unfolding perhaps

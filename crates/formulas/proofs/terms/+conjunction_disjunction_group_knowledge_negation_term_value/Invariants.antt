@@ -1,7 +1,6 @@
 use Rattle.std.proofs.Common.{◌+◌, ◌-◌, ◌*◌, length}
 use Rattle.lexer.specs.declared.tokens.Sign.TheVariants.{And, Or}
-use Rattle.lexer.specs.Tokens.{pieces_from}
-use Rattle.formulas.specs.Readers.{term, conjunction, disjunction}
+use Rattle.formulas.specs.Readers.{term, conjunction}
 use Rattle.formulas.specs.Sentences.{both, either}
 use Rattle.formulas.specs.Stores.{store_of}
 use Rattle.formulas.proofs.Chains.{Going}

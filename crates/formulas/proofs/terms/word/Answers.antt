@@ -1,4 +1,4 @@
-use Rattle.std.proofs.Common.{◌≡◌, sym, ap, ◌∙◌}
+use Rattle.std.proofs.Common.{sym, ap}
 use Rattle.std.proofs.lemmas.Result.{err_from_is_err_and}
 use Rattle.lexer.specs.Tokens.{pieces_from}
 use Rattle.formulas.specs.Readers.{word_in}
@@ -6,32 +6,32 @@ use Rattle.formulas.specs.Stores.{store_of}
 use Rattle.formulas.proofs.Keep.{keeps_refl}
 use Rattle.formulas.proofs.terms.word.Goals as goal
 
-pub returns-in-err-fact : goal.returns-in-err-fact
-returns-in-err-fact c =
-    let p = err_from_is_err_and c.from-residual.result c.from-residual.ensures.1 in
+pub returns-in_err-fact-in-Fact : goal.returns-in_err-fact-in-Fact
+returns-in_err-fact-in-Fact c =
+    let p = err_from_is_err_and c.from_residual.result c.from_residual.ensures.1 in
     let kw = sym c.in-Fact.ensures in
-    let e0 = c.in-err-fact.ensures.reads_a_number in
+    let e0 = c.in_err-fact-in-Fact.ensures.reads_a_number in
     record { reads = rw (p.1, p.2) (simp (kw, e0)); keeps = keeps_refl (store_of c.args.nodes.now) }
 
-pub returns-in-err-quantity : goal.returns-in-err-quantity
-returns-in-err-quantity c =
-    let p = err_from_is_err_and c.from-residual-in-err-quantity.result c.from-residual-in-err-quantity.ensures.1 in
+pub returns-in_err-quantity-in-Quantity : goal.returns-in_err-quantity-in-Quantity
+returns-in_err-quantity-in-Quantity c =
+    let p = err_from_is_err_and c.from_residual-in_err-quantity-in-Quantity.result c.from_residual-in_err-quantity-in-Quantity.ensures.1 in
     let kw = sym c.in-Quantity.ensures in
-    let e0 = c.in-err-quantity.ensures.reads_a_number in
+    let e0 = c.in_err-quantity-in-Quantity.ensures.reads_a_number in
     record { reads = rw (p.1, p.2) (simp (kw, e0)); keeps = keeps_refl (store_of c.args.nodes.now) }
 
-pub returns-in-err-after : goal.returns-in-err-after
-returns-in-err-after c =
-    let p = err_from_is_err_and c.from-residual-in-err-after.result c.from-residual-in-err-after.ensures.1 in
+pub returns-in_err-after-in-Quantity : goal.returns-in_err-after-in-Quantity
+returns-in_err-after-in-Quantity c =
+    let p = err_from_is_err_and c.from_residual-in_err-after-in-Quantity.result c.from_residual-in_err-after-in-Quantity.ensures.1 in
     let kw = sym c.in-Quantity.ensures in
-    let e0 = c.in-ok-quantity.ensures.reads_a_number.is in let e1 = c.in-err-after.ensures in
+    let e0 = c.in_ok-quantity-in-Quantity.ensures.reads_a_number.is in let e1 = c.in_err-after-in-Quantity.ensures in
     record { reads = rw (p.1, p.2) (simp (kw, e0, e1)); keeps = keeps_refl (store_of c.args.nodes.now) }
 
-pub returns-in-err-amount : goal.returns-in-err-amount
-returns-in-err-amount c =
-    let p = err_from_is_err_and c.from-residual-in-err-amount.result c.from-residual-in-err-amount.ensures.1 in
+pub returns-in_err-amount-in-Quantity : goal.returns-in_err-amount-in-Quantity
+returns-in_err-amount-in-Quantity c =
+    let p = err_from_is_err_and c.from_residual-in_err-amount-in-Quantity.result c.from_residual-in_err-amount-in-Quantity.ensures.1 in
     let kw = sym c.in-Quantity.ensures in
-    let e0 = c.in-ok-quantity.ensures.reads_a_number.is in let e1 = c.in-ok-after.ensures.1.is in let e2 = c.in-err-amount.ensures.reads_a_number in
+    let e0 = c.in_ok-quantity-in-Quantity.ensures.reads_a_number.is in let e1 = c.in_ok-after-in-Quantity.ensures.1.is in let e2 = c.in_err-amount-in-Quantity.ensures.reads_a_number in
     record { reads = rw (p.1, p.2) (simp (kw, e0, e1, e2)); keeps = keeps_refl (store_of c.args.nodes.now) }
 
 pub returns-in-Other : goal.returns-in-Other

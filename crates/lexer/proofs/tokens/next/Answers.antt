@@ -14,8 +14,8 @@ returns-then-at-line c =
       };
     }
 
-pub token-at-requires : goal.token-at-requires
-token-at-requires c =
+pub token_at-requires : goal.token_at-requires
+token_at-requires c =
     let inside : c.min-start.result + c.run.result < length c.args.line.now = omega arith in
     (inside, no_space c.args.line.now c.min-start.result c.run.result c.run.ensures.run inside)
 

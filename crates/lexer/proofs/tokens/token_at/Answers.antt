@@ -1,27 +1,27 @@
 use Rattle.std.proofs.Common.{ℕ, ◌+◌, ◌-◌, List, take, drop, is_some, Some, None, sym, ap, ◌∙◌, arith}
 use Rattle.lexer.proofs.Firsts.{first_digits, first_letters, first_mark, numeral_long, numeral_large, numeral_fits, value_fits, onward_past}
 use Rattle.lexer.proofs.tokens.token_at.Goals as goal
-use Rattle.lexer.proofs.tokens.token_at.Goals.{then-digits-gt-MAX-DIGITS-via-then-digits-gt-MAX-DIGITS, then-digits-gt-MAX-DIGITS-via-else-digits-gt-MAX-DIGITS+then-is-none}
+use Rattle.lexer.proofs.tokens.token_at.Goals.{then-digits-gt-MAX_DIGITS-via-then-digits-gt-MAX_DIGITS, then-digits-gt-MAX_DIGITS-via-else-digits-gt-MAX_DIGITS+then-is_none}
 
 -- the token's bytes, as the code cuts them
 abbrev slice : List ℕ → ℕ → ℕ → List ℕ
 slice line at n = take (at + 1 + n - at) (drop at line)
 
-pub returns-then-digits-gt-MAX-DIGITS : goal.returns-then-digits-gt-MAX-DIGITS
-returns-then-digits-gt-MAX-DIGITS c =
+pub returns-then-digits-gt-MAX_DIGITS : goal.returns-then-digits-gt-MAX_DIGITS
+returns-then-digits-gt-MAX_DIGITS c =
     let first = first_digits c.args.line.now c.args.at c.requires.0 c.requires.1 c.run.result c.run.ensures.within _ (sym c.if-is.ensures) c.run.ensures.run in (
       _,
-      first (elim c.then-digits-gt-MAX-DIGITS.branch [
-        | then-digits-gt-MAX-DIGITS-via-then-digits-gt-MAX-DIGITS w ↦ numeral_long (slice c.args.line.now c.args.at c.run.result) w.if-digits-gt-MAX-DIGITS.true
-        | then-digits-gt-MAX-DIGITS-via-else-digits-gt-MAX-DIGITS+then-is-none w ↦ numeral_large (slice c.args.line.now c.args.at c.run.result) (ap is_some (sym w.value_of.ensures.is_the_number_written) ∙ w.if-is-none.ensures)
+      first (elim c.then-digits-gt-MAX_DIGITS.branch [
+        | then-digits-gt-MAX_DIGITS-via-then-digits-gt-MAX_DIGITS w ↦ numeral_long (slice c.args.line.now c.args.at c.run.result) w.if-digits-gt-MAX_DIGITS.true
+        | then-digits-gt-MAX_DIGITS-via-else-digits-gt-MAX_DIGITS+then-is_none w ↦ numeral_large (slice c.args.line.now c.args.at c.run.result) (ap is_some (sym w.value_of.ensures.is_the_number_written) ∙ w.if-is_none.ensures)
       ]),
     )
 
 pub returns-then-is : goal.returns-then-is
 returns-then-is c =
-    let some = ap is_some (sym c.value_of.ensures.is_the_number_written) ∙ c.if-is-none.ensures in
+    let some = ap is_some (sym c.value_of.ensures.is_the_number_written) ∙ c.if-is_none.ensures in
     let first = first_digits c.args.line.now c.args.at c.requires.0 c.requires.1 c.run.result c.run.ensures.within _ (sym c.if-is.ensures) c.run.ensures.run
-    (numeral_fits (slice c.args.line.now c.args.at c.run.result) c.if-digits-gt-MAX-DIGITS.false some) in
+    (numeral_fits (slice c.args.line.now c.args.at c.run.result) c.if-digits-gt-MAX_DIGITS.false some) in
     record {
       first = first;
       within = c.run.ensures.within;

@@ -5,8 +5,8 @@ use Rattle.lexer.specs.Bytes.{value_of}
 use Rattle.lexer.proofs.Scans.{value_more, value_front}
 use Rattle.lexer.proofs.tokens.value_of.Goals as goal
 
-pub returns-then-value-gt-MAX-NUMBER : goal.returns-then-value-gt-MAX-NUMBER
-returns-then-value-gt-MAX-NUMBER c =
+pub returns-then-value-gt-MAX_NUMBER : goal.returns-then-value-gt-MAX_NUMBER
+returns-then-value-gt-MAX_NUMBER c =
     let ds = c.args.digits.now in
     let i = c.loop-b.b-index in
     record { is_the_number_written = sym (cond-false (leb (value_of ds) 65535) (Some (value_of ds)) None (lt-leb (value_of ds) 65535 (omega (arith, value_front (i + 1) ds, value_more ds i (omega arith))))) }

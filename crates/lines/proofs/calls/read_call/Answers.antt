@@ -1,26 +1,26 @@
-use Rattle.std.proofs.Common.{◌≡◌, sym, ap, ◌∙◌}
+use Rattle.std.proofs.Common.{sym, ◌∙◌}
 use Rattle.formulas.specs.Stores.{store_of}
 use Rattle.lines.proofs.Calling.{kept_all, kept_back, keeps_from, held_keeps, fault_refused, fault_holds, full_refused, full_holds, call_accepted, call_holds}
 use Rattle.lines.proofs.calls.read_call.Goals as goal
 
-pub returns-then-is-full : goal.returns-then-is-full
-returns-then-is-full c =
+pub returns-then-is_full : goal.returns-then-is_full
+returns-then-is_full c =
     let before = store_of c.args.nodes.now in
     let held = c.keep.ensures.keeps_the_first_nodes ∙ kept_all before c.used-used.result c.used-used.ensures.counts_the_nodes in
-    let full = sym c.if-is-full.ensures.tells_that_one_found_no_place in
+    let full = sym c.if-is_full.ensures.tells_that_one_found_no_place in
     record {
-      answers_the_line = full_refused c.args.line.now before.nodes c.in-Ok.call _ _ held c.in-Ok.ensures.reads full (store_of c.keep-then-is-full.new.self);
+      answers_the_line = full_refused c.args.line.now before.nodes c.in-Ok.call _ _ held c.in-Ok.ensures.reads full (store_of c.keep-then-is_full.new.self);
       holds_its_nodes =
-          c.keep-then-is-full.ensures.keeps_the_first_nodes ∙ kept_back before.nodes _ _ c.used-used.result held c.used-used.ensures.counts_the_nodes c.in-Ok.ensures.keeps
+          c.keep-then-is_full.ensures.keeps_the_first_nodes ∙ kept_back before.nodes _ _ c.used-used.result held c.used-used.ensures.counts_the_nodes c.in-Ok.ensures.keeps
           ∙ full_holds c.args.line.now before.nodes c.in-Ok.call _ _ held c.in-Ok.ensures.reads full;
-      keeps_the_nodes_before = held_keeps before _ (c.keep-then-is-full.ensures.keeps_the_first_nodes ∙ kept_back before.nodes _ _ c.used-used.result held c.used-used.ensures.counts_the_nodes c.in-Ok.ensures.keeps);
+      keeps_the_nodes_before = held_keeps before _ (c.keep-then-is_full.ensures.keeps_the_first_nodes ∙ kept_back before.nodes _ _ c.used-used.result held c.used-used.ensures.counts_the_nodes c.in-Ok.ensures.keeps);
     }
 
-pub returns-else-is-full : goal.returns-else-is-full
-returns-else-is-full c =
+pub returns-else-is_full : goal.returns-else-is_full
+returns-else-is_full c =
     let before = store_of c.args.nodes.now in
     let held = c.keep.ensures.keeps_the_first_nodes ∙ kept_all before c.used-used.result c.used-used.ensures.counts_the_nodes in
-    let room = sym c.if-is-full.ensures.tells_that_one_found_no_place in
+    let room = sym c.if-is_full.ensures.tells_that_one_found_no_place in
     record {
       answers_the_line = call_accepted c.args.line.now before.nodes c.in-Ok.call _ _ held c.in-Ok.ensures.reads room;
       holds_its_nodes = call_holds c.args.line.now before.nodes c.in-Ok.call _ _ held c.in-Ok.ensures.reads room;

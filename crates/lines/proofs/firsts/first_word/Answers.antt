@@ -3,13 +3,13 @@ use Rattle.lines.specs.Reading.{the_beginning}
 use Rattle.lines.specs.Firsts.{first_word}
 use Rattle.lines.proofs.firsts.first_word.Goals as goal
 
-pub returns-then-line-gt-MAX-LINE : goal.returns-then-line-gt-MAX-LINE
+pub returns-then-line-gt-MAX_LINE : goal.returns-then-line-gt-MAX_LINE
 unfolding first_word
-returns-then-line-gt-MAX-LINE c = search rules
+returns-then-line-gt-MAX_LINE c = search rules
 
-pub returns-in-err-x : goal.returns-in-err-x
+pub returns-in_err-x : goal.returns-in_err-x
 unfolding the_beginning first_word
-returns-in-err-x c = search rules
+returns-in_err-x c = search rules
 
 pub returns-in-Word : goal.returns-in-Word
 unfolding the_beginning first_word

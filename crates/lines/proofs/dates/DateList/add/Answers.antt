@@ -6,6 +6,6 @@ use Rattle.lines.proofs.dates.DateList.add.Goals as goal
 pub returns : goal.returns
 returns c =
     record {
-      dates = ap (map month_day) c.push-reserved.ensures.items ∙ map_push month_day (vec_items c.args.self.now.items) c.args.date;
-      more = c.push-reserved.ensures.len;
+      dates = ap (map month_day) c.push_reserved.ensures.items ∙ map_push month_day (vec_items c.args.self.now.items) c.args.date;
+      more = c.push_reserved.ensures.len;
     }
