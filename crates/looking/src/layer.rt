@@ -10,7 +10,7 @@ ghost use Rattle.looking.specs.Layer.{looking_stage, looking_meaning, looking_ta
 
 use crate::looks::Slot;
 use crate::slots::{MAX_SLOTS, Slots};
-use model::questions::Model;
+use model::questions::Model as PuzzleModel;
 use model::refusals::Refusal;
 use model::stages::{Stage, is_short};
 
@@ -50,7 +50,7 @@ impl<S: Stage> LookingLayer<S> {
     }
 }
 
-pub impl<S: Stage> Model for LookingLayer<S> as LookingModel {
+impl<S: Stage> PuzzleModel for LookingLayer<S> {
     ghost meaning = { looking_meaning S.Model.meaning };
 
     ghost lawful = { λ l. lawful_refined (S.Model.meaning l.below) (told (kept l.table)) (told_splits (kept l.table)) (S.Model.lawful l.below) };

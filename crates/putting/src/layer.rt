@@ -6,7 +6,7 @@ ghost use Rattle.model.proofs.Steps.{lawful_replaced};
 ghost use Rattle.putting.specs.Layer.{putting_stage, putting_meaning, putting_takes, put_facts, put_rows};
 ghost use Rattle.putting.specs.PutFacts.{put_facts_there};
 
-use model::questions::Model;
+use model::questions::Model as PuzzleModel;
 use model::refusals::Refusal;
 use model::rows::{MAX_WORDS, has_world, whole_row};
 use model::stages::{Stage, is_short};
@@ -46,7 +46,7 @@ impl<S: Stage> PuttingLayer<S> {
     }
 }
 
-pub impl<S: Stage> Model for PuttingLayer<S> as PuttingModel {
+impl<S: Stage> PuzzleModel for PuttingLayer<S> {
     ghost meaning = { putting_meaning S.Model.meaning };
 
     ghost lawful = { λ l. lawful_replaced (S.Model.meaning l.below) (put_facts (S.Model.meaning l.below) l.rows) (put_rows l.rows) (put_facts_there (S.Model.meaning l.below) l.rows) (S.Model.lawful l.below) };

@@ -1,7 +1,7 @@
 -- Lists of number pairs: how they are counted and written, and that they hold just the pairs within the bounds.
 use Rattle.std.proofs.Common.{◌≡◌, ℕ, zero, suc, ◌+◌, ◌-◌, ◌*◌, ◌<◌, ◌≤◌, Bool, true, false, cond, ◌||◌, eqb, ltb, leb, List, [], ◌∷◌, ◌++◌, map, length, drop, set, is_ok, Ok, Err, Result, sym, refl, ap, ◌∙◌, subst, ap₂, inl, inr, ⊎_elim, add-one, arith}
 use lib.Seq.{sets, sets-eq}
-use Rattle.std.specs.List.{range_with_len, ContainsAt as Has, flat_map, AllByRecursion as All}
+use Rattle.std.specs.List.{range_with_len, ContainsAt as Has, flat_map, AllByRecursion}
 use Rattle.std.proofs.lemmas.List.FromFn.{length-map-range_with_len}
 use Rattle.std.proofs.ByRecursion.{All-append, all-has, All-weaker, has_append_left, has_append_right}
 use Rattle.std.proofs.lemmas.List.{length-append, length-map, map-set}
@@ -117,14 +117,14 @@ accepted_fills f xs ys low sum n h e =
     e ∙ ap (λ (r : Result ℕ Refusal). laid r (pairs low sum) (map f xs)) (h ∙ ap (fill_answer low sum) (sym (length-map xs f)))
 
 -- a row holds only pairs within the bounds
-row_bounded : (low sum x y n : ℕ) → low ≤ x → x < y → (0 < n → x + y + n ≤ sum + 1) → All (Bounded low sum) (row_from x y n)
+row_bounded : (low sum x y n : ℕ) → low ≤ x → x < y → (0 < n → x + y + n ≤ sum + 1) → AllByRecursion (Bounded low sum) (row_from x y n)
 unfolding row_from
 row_bounded low sum x y zero a b h = tt
 row_bounded low sum x y (suc n) a b h =
     let k : x + y + suc n ≤ sum + 1 = h (omega arith) in
     ((a, b, omega arith), row_bounded low sum x (y + 1) n a (omega arith) (λ _. omega arith))
 
-rows_bounded : (low sum x n : ℕ) → low ≤ x → All (Bounded low sum) (flat_map (row sum) (range_with_len x n))
+rows_bounded : (low sum x n : ℕ) → low ≤ x → AllByRecursion (Bounded low sum) (flat_map (row sum) (range_with_len x n))
 unfolding row
 rows_bounded low sum x zero a = tt
 rows_bounded low sum x (suc n) a =
@@ -154,11 +154,11 @@ rows_have sum a (suc n) x y h k l m =
     (cases_eq x a)
 
 -- the pairs ascend
-ascending_append : (ps qs : List (ℕ × ℕ)) → Ascending ps → Ascending qs → All (λ p. All (Before p) qs) ps → Ascending (ps ++ qs)
+ascending_append : (ps qs : List (ℕ × ℕ)) → Ascending ps → Ascending qs → AllByRecursion (λ p. AllByRecursion (Before p) qs) ps → Ascending (ps ++ qs)
 ascending_append [] qs a b h = b
 ascending_append (p ∷ ps) qs a b h = (All-append (Before p) ps qs a.0 h.0, ascending_append ps qs a.1 b h.1)
 
-row_after : (x y z n : ℕ) → y < z → All (Before (x, y)) (row_from x z n)
+row_after : (x y z n : ℕ) → y < z → AllByRecursion (Before (x, y)) (row_from x z n)
 unfolding row_from
 row_after x y z zero h = tt
 row_after x y z (suc n) h = (inr (refl, h), row_after x y (z + 1) n (omega arith))
@@ -168,12 +168,12 @@ unfolding row_from
 row_ascends x y zero = tt
 row_ascends x y (suc n) = (row_after x y (y + 1) n (omega arith), row_ascends x (y + 1) n)
 
-row_of : (x y n : ℕ) → All (λ p. p.0 ≡ x) (row_from x y n)
+row_of : (x y n : ℕ) → AllByRecursion (λ p. p.0 ≡ x) (row_from x y n)
 unfolding row_from
 row_of x y zero = tt
 row_of x y (suc n) = (refl, row_of x (y + 1) n)
 
-rows_above : (sum x a n : ℕ) → x < a → All (λ p. x < p.0) (flat_map (row sum) (range_with_len a n))
+rows_above : (sum x a n : ℕ) → x < a → AllByRecursion (λ p. x < p.0) (flat_map (row sum) (range_with_len a n))
 unfolding row
 rows_above sum x a zero h = tt
 rows_above sum x a (suc n) h =
@@ -187,7 +187,7 @@ rows_ascend sum a zero = tt
 rows_ascend sum a (suc n) =
     let rest : List (ℕ × ℕ) = flat_map (row sum) (range_with_len (a + 1) n) in
     ascending_append (row sum a) rest (row_ascends a (a + 1) (sum - 2 * a)) (rows_ascend sum (a + 1) n)
-    (All-weaker (λ p. p.0 ≡ a) (λ p. All (Before p) rest)
+    (All-weaker (λ p. p.0 ≡ a) (λ p. AllByRecursion (Before p) rest)
     (λ p e. All-weaker (λ q. a < q.0) (Before p) (λ q l. inl (omega arith)) rest (rows_above sum a (a + 1) n (omega arith)))
     (row sum a) (row_of a (a + 1) (sum - 2 * a)))
 

@@ -1,6 +1,6 @@
 -- Number pairs, of which one agent is told the sum and the other the product.
 use Rattle.std.specs.Prelude.{◌≡◌, ℕ, ◌+◌, ◌-◌, ◌*◌, ◌<◌, ◌≤◌, cond, ◌||◌, ◌⊎◌, List, [], ◌∷◌, ◌++◌, map, length, drop, Ok, Err, Result, ◌==◌, nat_le, nat_lt}
-use Rattle.std.specs.List.{range_with_len, ContainsAt as Has, flat_map, AllByRecursion as All}
+use Rattle.std.specs.List.{range_with_len, ContainsAt as Has, flat_map, AllByRecursion}
 use Rattle.model.specs.declared.refusals.Refusal.{Refusal}
 use Rattle.model.specs.declared.refusals.Refusal.TheVariants.{PairBounds, CaseCount, ShortList}
 use Rattle.model.specs.Meaning.{Meaning}
@@ -61,7 +61,7 @@ Before p q = (p.0 < q.0) ⊎ ((p.0 ≡ q.0) × (p.1 < q.1))
 -- each pair comes before all that follow it
 abbrev pub Ascending : List (ℕ × ℕ) → Type 0
 Ascending [] = Unit {0}
-Ascending (p ∷ ps) = All (Before p) ps × Ascending ps
+Ascending (p ∷ ps) = AllByRecursion (Before p) ps × Ascending ps
 
 -- the two numbers are within the bounds, the lower one first
 abbrev pub Bounded : ℕ → ℕ → ℕ × ℕ → Type 0
