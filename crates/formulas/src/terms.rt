@@ -14,7 +14,7 @@ use lexer::tokens::{Sign, Token, next};
 use theory::node::Node;
 
 // Conjunctions joined by `|`.
-#[cycle(conjunction_disjunction_group_knowledge_negation_term_value)]
+#[cycle(sentence)]
 pub(crate) fn disjunction(
     line: &[u8],
     from: usize,
@@ -34,7 +34,7 @@ pub(crate) fn disjunction(
 }
 
 // Terms joined by `&`.
-#[cycle(conjunction_disjunction_group_knowledge_negation_term_value)]
+#[cycle(sentence)]
 fn conjunction(
     line: &[u8],
     from: usize,
@@ -59,7 +59,7 @@ fn conjunction(
     Ok(at)
 }
 
-#[cycle(conjunction_disjunction_group_knowledge_negation_term_value)]
+#[cycle(sentence)]
 fn term(line: &[u8], from: usize, levels: u8, nodes: &mut NodeList) -> Result<usize, FormulaFault>
     ensures reads { Reads (term levels) line.now from result (store_of nodes.old) (store_of nodes.new) }
     ensures keeps { Keeps (store_of nodes.old) (store_of nodes.new) }
@@ -85,7 +85,7 @@ fn term(line: &[u8], from: usize, levels: u8, nodes: &mut NodeList) -> Result<us
 }
 
 // What follows `~`, which stands at the column.
-#[cycle(conjunction_disjunction_group_knowledge_negation_term_value)]
+#[cycle(sentence)]
 fn negation(
     line: &[u8],
     from: usize,
@@ -111,7 +111,7 @@ fn negation(
 }
 
 // What follows `K`.
-#[cycle(conjunction_disjunction_group_knowledge_negation_term_value)]
+#[cycle(sentence)]
 fn knowledge(
     line: &[u8],
     from: usize,
@@ -138,7 +138,7 @@ fn knowledge(
 }
 
 // What follows `(`.
-#[cycle(conjunction_disjunction_group_knowledge_negation_term_value)]
+#[cycle(sentence)]
 fn group(
     line: &[u8],
     from: usize,
@@ -157,7 +157,7 @@ fn group(
 }
 
 // What follows `V`.
-#[cycle(conjunction_disjunction_group_knowledge_negation_term_value)]
+#[cycle(sentence)]
 fn value(
     line: &[u8],
     from: usize,

@@ -4,7 +4,7 @@ use Rattle.formulas.specs.Readers.{term, conjunction}
 use Rattle.formulas.specs.Sentences.{both, either}
 use Rattle.formulas.specs.Stores.{store_of}
 use Rattle.formulas.proofs.Chains.{Going}
-use Rattle.formulas.proofs.terms.+conjunction_disjunction_group_knowledge_negation_term_value.Given as goal
+use Rattle.formulas.proofs.terms.+sentence.Given as goal
 
 abbrev pub decreases-conjunction : goal.decreases-conjunction
 decreases-conjunction l = 4 * l.levels + 2

@@ -11,7 +11,7 @@ use Rattle.formulas.specs.Reading.{perhaps, parsed, bind}
 use Rattle.formulas.specs.Stores.{store_of, node, and_then}
 use Rattle.formulas.proofs.Keep.{keeps_refl, keeps_trans}
 use Rattle.formulas.proofs.Steps.{inner_none, inner_some, wrote, term_first, term_bad, going_start, going_more, going_end, going_fault, going_breaks, both_written, either_written, over_written, handed, onward_at, onward_word, value_no_agent, value_no_dot, value_no_quantity, value_whole, misplaced}
-use Rattle.formulas.proofs.terms.+conjunction_disjunction_group_knowledge_negation_term_value.Goals as goal
+use Rattle.formulas.proofs.terms.+sentence.Goals as goal
 
 pub conjunction-loop-after-init : goal.conjunction-loop-after-init
 conjunction-loop-after-init t c = going_start c.args.line.now And both (term c.args.levels) c.in_ok-at.at (store_of c.term.new.nodes) c.in_ok-at.ensures.reads.within
