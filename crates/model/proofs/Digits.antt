@@ -1,15 +1,17 @@
 -- Binary digits of words, and the worlds of a row.
-use Rattle.std.proofs.Common.{◌≡◌, ℕ, zero, suc, ◌+◌, ◌-◌, ◌*◌, ◌/◌, ◌%◌, ◌^◌, ◌<◌, ◌≤◌, Bool, true, false, cond, not, ◌&&◌, ◌||◌, eqb, ◌⊎◌, List, length, get_or, set, sym, refl, ap, ◌∙◌, subst, ap₂, inl, inr, ⊎_elim, add-zero, one-mul, arith, lit<}
+use Rattle.std.proofs.Common.{◌≡◌, ℕ, zero, suc, ◌+◌, ◌-◌, ◌*◌, ◌/◌, ◌%◌, ◌^◌, ◌<◌, ◌≤◌, Bool, true, false, cond, not, ◌&&◌, ◌||◌, eqb, ◌⊎◌, List, ◌++◌, length, take, drop, replicate, min, get_or, set, sym, refl, ap, ◌∙◌, subst, ap₂, inl, inr, ⊎_elim, add-zero, one-mul, arith, take_all, lit<}
 use native.Mathlib.Nat.{div-eq_of_lt}
 use lib.Bits.{bit_and, bit_or, bit_xor, and_shr, or_shr, xor_shr, and_mod, or_mod, xor_mod}
 use lib.Arith.{lt-one}
 use lib.Count.{ones, ones_in, ones_cat}
 use lib.Pow.{mod-mod-pow}
 use Rattle.std.proofs.lemmas.Nat.{pow_pos, field_of, shr_split, shr_below, div-add-mod', mod_below, div-mul-add, mod-mul-add, shl-shr, pow-add, pow_below, and_mask, one_shl}
-use Rattle.std.proofs.lemmas.List.{get_or-set_same, get_or-set_other, get_or_past}
+use Rattle.std.proofs.lemmas.List.{get_or-set_same, get_or-set_other, get_or_past, get_or_append_left, get_or-append_right, get_or-take, get_or-drop, get_or-replicate, length-take-le}
 use Rattle.std.proofs.lemmas.Bool.{cases_lt, cases_eq, cases_order, eq-eqb, ne_eqb, lt-ltb, le-ltb, cond-true, cond-false}
+use Rattle.std.specs.List.{sum_by}
+use Rattle.std.proofs.lemmas.List.Sums.{sum_by_more}
 use Rattle.model.specs.Rows.{digit, bit, count, has_place, with_world, without_world, RowsAreSets}
-use Rattle.model.proofs.Counts.{count_same, count_add}
+use Rattle.model.proofs.Counts.{count_none, count_same, count_add}
 
 -- a remainder by 2 is 0 or 1
 pub two : (a : ℕ) → a < 2 → (a ≡ 0) ⊎ (a ≡ 1)
@@ -211,3 +213,31 @@ pub count_rest : (row : List ℕ) (i k t x : ℕ) → k < 64 → t ≡ count (bi
 count_rest row i k t x h e f =
     ap₂ ◌+◌ e (ap (λ (y : ℕ). ones (bit_and x (y - 1))) (one_shl k 64 h) ∙ ones_low k x ∙ ap (λ (y : ℕ). count (digit y) k) f)
     ∙ sym (count_word row i k (omega arith))
+
+-- the ones of the first k words, each of at most 64 digits; a word past the row's end has none
+pub ones_of_words : (row : List ℕ) → ((i : ℕ) → get_or row i 0 < 2 ^ 64) → (k : ℕ) → sum_by ones (take k row) ≡ count (bit row) (64 * k)
+unfolding ones
+ones_of_words row fits zero = sym (count_none (bit row))
+ones_of_words row fits (suc k) =
+    let next : suc k ≡ k + 1 = omega arith in
+    ap (λ (i : ℕ). sum_by ones (take i row)) next
+    ∙ more (cases_lt k (length row))
+    ∙ count_whole row k (sum_by ones (take k row)) (get_or row k 0) (ones_of_words row fits k) refl (fits k)
+    ∙ ap (λ (i : ℕ). count (bit row) (64 * i)) (sym next)
+  where
+    more : (k < length row) ⊎ (length row ≤ k) → sum_by ones (take (k + 1) row) ≡ sum_by ones (take k row) + ones (get_or row k 0)
+    more (inl h) = sum_by_more ones row k 0 h
+    more (inr h) =
+        ap (sum_by ones) (take_all (k + 1) row (omega arith) ∙ sym (take_all k row h))
+        ∙ sym (add-zero (sum_by ones (take k row)))
+        ∙ ap (λ (x : ℕ). sum_by ones (take k row) + ones x) (sym (get_or_past row k 0 h))
+
+-- the front of a row, and zeros up to 64 words
+pub front_and_zeros : (row : List ℕ) (kept i : ℕ) → kept ≡ min (length row) 64 → i < 64 → get_or (take kept row ++ drop kept (replicate 64 0)) i 0 ≡ get_or row i 0
+front_and_zeros row kept i e h = ⊎_elim
+    (λ l. get_or_append_left (take kept row) (drop kept (replicate 64 0)) 0 i (omega (arith, long)) ∙ get_or-take kept row i 0 l)
+    (λ l. get_or-append_right (take kept row) (drop kept (replicate 64 0)) kept i 0 long l ∙ get_or-drop kept (replicate 64 0) (i - kept) 0 ∙ get_or-replicate 64 (kept + (i - kept)) 0 0 (omega arith) ∙ sym (get_or_past row i 0 (omega arith)))
+    (cases_lt i kept)
+  where
+    long : length (take kept row) ≡ kept
+    long = length-take-le kept row (omega arith)

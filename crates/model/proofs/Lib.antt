@@ -1,5 +1,6 @@
 pub mod Steps
 pub mod Counts
+pub mod Ranges
 pub mod Deciding
 pub mod Digits
 pub mod Refused

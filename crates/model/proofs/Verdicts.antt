@@ -62,13 +62,21 @@ module _ (m : Meaning) (l : Lawful m) where
       (⊎_elim (λ j. absurd (none_between 0 w (omega arith) j s)) (λ j. absurd (none_between (suc (lowest_of m)) w (omega arith) k s)))
       (cases_order w (lowest_of m))
 
+  -- a survivor that is the lowest from the one after u on is above u
+  above : (u v : ℕ) → v ≡ least (survives_from m (u + 1)) m.width → m.survives v ≡ true → u < v
+  above u v e s = ⊎_elim
+      (λ f. let y = and_parts (leb (u + 1) (least (survives_from m (u + 1)) m.width)) (m.survives (least (survives_from m (u + 1)) m.width)) f.1 in
+      omega (arith, leb-true (u + 1) (least (survives_from m (u + 1)) m.width) y.0))
+      (λ f. absurd (omega (arith, l.within v s)))
+      (least_fits (survives_from m (u + 1)) m.width).found
+
   -- the verdict that a count, the lowest and the second give
   pub record Right (v : Verdict) : Type 0 where
     pub is : v ≡ verdict_of m
     pub names : NamesTheSurvivors m v
 
   module _ (n : ℕ) (many : n ≡ survivors_of m) where
-    pub right_none : n ≡ 0 → Right Contradiction
+    right_none : n ≡ 0 → Right Contradiction
     unfolding verdict_of
     right_none e = record {
       is = sym (cond-true (eqb (survivors_of m) 0) _ _ (eq-eqb (survivors_of m) 0 (sym many ∙ e)));
@@ -79,7 +87,7 @@ module _ (m : Meaning) (l : Lawful m) where
       counted : survivors_of m ≡ 0 → ⊥
       counted z = some (many ∙ z)
 
-      pub right_one : (u : ℕ) → u ≡ lowest_of m → n ≡ 1 → Right (Unique u)
+      right_one : (u : ℕ) → u ≡ lowest_of m → n ≡ 1 → Right (Unique u)
       unfolding verdict_of
       right_one u low e = record {
         is =
@@ -88,7 +96,7 @@ module _ (m : Meaning) (l : Lawful m) where
         names = (ap m.survives low ∙ lowest_survives counted, λ v s. only_lowest counted (sym many ∙ e) v s ∙ sym low);
       }
 
-      pub right_more : (u v : ℕ) → u ≡ lowest_of m → v ≡ least (survives_from m (u + 1)) m.width → (n ≡ 1 → ⊥) → Right (Rivals n u v)
+      right_more : (u v : ℕ) → u ≡ lowest_of m → v ≡ least (survives_from m (u + 1)) m.width → (n ≡ 1 → ⊥) → Right (Rivals n u v)
       unfolding verdict_of
       right_more u v low high more =
           let next : u + 1 ≡ suc (lowest_of m) = omega arith in
@@ -109,3 +117,28 @@ module _ (m : Meaning) (l : Lawful m) where
         where
           rivals : {a b c d e f : ℕ} → a ≡ b → c ≡ d → e ≡ f → Rivals a c e ≡ Rivals b d f
           rivals x y z = cc
+
+    counted_none : m.width ≡ least (survives_from m 0) m.width → n ≡ 0
+    counted_none e = many ∙ count_zero m.survives m.width (λ v k. ⊎_elim (λ s. absurd (none_between 0 v (omega arith) (omega arith) s)) (λ s. s) (cases_Bool (m.survives v)))
+
+    counted_some : (u : ℕ) → m.survives u ≡ true → n ≡ 0 → ⊥
+    counted_some u s z = false≢true (sym (none_counted m.survives m.width (sym many ∙ z) u (l.within u s)) ∙ s)
+
+    counted_one : (u : ℕ) → u ≡ lowest_of m → m.survives u ≡ true → m.width ≡ least (survives_from m (u + 1)) m.width → n ≡ 1
+    counted_one u low s e = many ∙ one_counted m.survives m.width u (l.within u s) s (λ v k t. ⊎_elim
+        (λ q. q)
+        (⊎_elim (λ j. absurd (none_between 0 v (omega arith) (omega arith) t)) (λ j. absurd (none_between (u + 1) v (omega arith) (omega arith) t)))
+        (cases_order v u))
+
+    counted_more : (u v : ℕ) → u < v → m.survives u ≡ true → m.survives v ≡ true → n ≡ 1 → ⊥
+    counted_more u v k s t e = omega (arith, two_counted m.survives m.width u v k (l.within v t) s t)
+
+    -- no lowest survivor; one, and none after it; one, and another after it
+    pub named_none : m.width ≡ least (survives_from m 0) m.width → Right Contradiction
+    named_none e = right_none (counted_none e)
+
+    pub named_one : (u : ℕ) → u ≡ lowest_of m → m.survives u ≡ true → m.width ≡ least (survives_from m (u + 1)) m.width → Right (Unique u)
+    named_one u low s e = right_one (counted_some u s) u low (counted_one u low s e)
+
+    pub named_more : (u v : ℕ) → u ≡ lowest_of m → m.survives u ≡ true → v ≡ least (survives_from m (u + 1)) m.width → m.survives v ≡ true → Right (Rivals n u v)
+    named_more u v low s high t = right_more (counted_some u s) u v low high (counted_more u v (above u v high t) s t)

@@ -1,4 +1,4 @@
--- What a model and a stage mean: which worlds survive, what each agent distinguishes, what holds where.
+-- What a model means: which worlds survive, what each agent distinguishes, what holds where.
 use Rattle.std.specs.Prelude.{◌≡◌, ℕ, ◌<◌, ◌≤◌, Bool, true, false, cond, not, ◌&&◌, ◌||◌, ◌==◌}
 
 -- a model's answers, for all numbers
@@ -84,13 +84,6 @@ put f row m = record {
   fact = λ g w. cond (g == f) (m.survives w && row w) (m.fact g w);
   quantity = m.quantity;
 }
-
--- what a stage means, a model that can also take steps: whether it hears, how many looks it still takes, whether it puts
-pub record StageMeaning : Type 0 where
-  pub model : Meaning
-  pub hears : Bool
-  pub looks : ℕ
-  pub puts : Bool
 
 -- each agent also distinguishes what it is now told apart
 abbrev pub refined : (ℕ → ℕ → ℕ → Bool) → Meaning → Meaning

@@ -19,7 +19,7 @@ pub const MAX_WORDS: usize = 64;
 fn word_at(row: &[u64], place: usize) -> u64
     ensures { result ≡ slice_index row.now place }
 {
-    if place < row.len() { row[place] } else { 0 }
+    row.get(place).copied().unwrap_or(0)
 }
 
 fn has_digit(word: u64, place: u16) -> bool
@@ -75,9 +75,8 @@ pub fn whole_row(row: &[u64]) -> [u64; MAX_WORDS]
     ensures has_the_same_worlds { (w : ℕ) → w < 4096 → bit result w ≡ bit row.now w }
 {
     let mut whole = [0; MAX_WORDS];
-    for place in 0..MAX_WORDS {
-        whole[place] = word_at(row, place);
-    }
+    let kept = row.len().min(MAX_WORDS);
+    whole[..kept].copy_from_slice(&row[..kept]);
     whole
 }
 
@@ -87,12 +86,13 @@ fn count_front(row: &[u64], words: u16, digits: u16) -> u16
     requires few_digits { digits < 64 }
     ensures { (width : ℕ) → width ≡ 64 * words + digits → result ≡ count (bit row.now) width }
 {
-    let mut total = 0;
-    for place in 0..words {
-        total += word_at(row, place as usize).count_ones() as u16;
-    }
+    let whole: u32 = row
+        .iter()
+        .take(words as usize)
+        .map(|word| word.count_ones())
+        .sum();
     let mask = (1 << digits) - 1;
-    total + (word_at(row, words as usize) & mask).count_ones() as u16
+    (whole + (word_at(row, words as usize) & mask).count_ones()) as u16
 }
 
 // How many worlds below the width the row has, counted word by word.
@@ -103,8 +103,6 @@ pub fn count_worlds(row: &[u64], width: u16) -> u16
 }
 
 // A row is a set of worlds: adding or removing one alters no other.
-pub fn rows_are_sets() -> u8
+pub fn rows_are_sets()
     ensures rows_are_sets { RowsAreSets }
-{
-    0
-}
+{}

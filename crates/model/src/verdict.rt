@@ -1,5 +1,5 @@
 // What the survivors of a model come to.
-ghost use Rattle.std.specs.Prelude.{◌≡◌};
+ghost use Rattle.std.specs.Prelude.{◌≡◌, true, unwrap_or, IfSome};
 ghost use Rattle.model.specs.Rows.{count, least};
 ghost use Rattle.model.specs.Verdict.{survives_from, survivors_of, verdict_of, NamesTheSurvivors};
 
@@ -25,32 +25,17 @@ pub enum Verdict {
 pub fn survivors<M: Model>(model: &M) -> u16
     ensures counts_the_survivors { result ≡ count (M.meaning model.now).survives (M.meaning model.now).width }
 {
-    let mut total = 0;
-    for world in 0..model.width() {
-        if model.survives(world) {
-            total += 1;
-        }
-    }
-    total
+    (0..model.width())
+        .filter(|world| model.survives(*world))
+        .count() as u16
 }
 
-// The lowest surviving world from a number on and below an end, or the end.
-fn lowest_between<M: Model>(model: &M, from: u16, end: u16) -> u16
-    ensures { result ≡ least (survives_from (M.meaning model.now) from) «end» }
+// The lowest surviving world from a number on, if there is one.
+pub fn lowest_from<M: Model>(model: &M, from: u16) -> Option<u16>
+    ensures is_the_lowest_survivor_from_there { unwrap_or result (M.meaning model.now).width ≡ least (survives_from (M.meaning model.now) from) (M.meaning model.now).width }
+    ensures is_a_survivor { IfSome result (λ w. (M.meaning model.now).survives w ≡ true) }
 {
-    for world in from..end {
-        if model.survives(world) {
-            return world;
-        }
-    }
-    end
-}
-
-// The lowest surviving world from a number on, or the width where there is none.
-pub fn lowest_from<M: Model>(model: &M, from: u16) -> u16
-    ensures is_the_lowest_survivor_from_there { result ≡ least (survives_from (M.meaning model.now) from) (M.meaning model.now).width }
-{
-    lowest_between(model, from, model.width())
+    (from..model.width()).find(|world| model.survives(*world))
 }
 
 // The verdict on a model of which the survivors are counted.
@@ -59,18 +44,16 @@ fn verdict_among<M: Model>(model: &M, count: u16) -> Verdict
     ensures is { result ≡ verdict_of (M.meaning model.now) }
     ensures names { NamesTheSurvivors (M.meaning model.now) result }
 {
-    if count == 0 {
+    let Some(lowest) = lowest_from(model, 0) else {
         return Verdict::Contradiction;
-    }
-    let lowest = lowest_from(model, 0);
-    if count == 1 {
-        return Verdict::Unique { world: lowest };
-    }
-    let second = lowest_from(model, lowest + 1);
-    Verdict::Rivals {
-        count,
-        lowest,
-        second,
+    };
+    match lowest_from(model, lowest + 1) {
+        None => Verdict::Unique { world: lowest },
+        Some(second) => Verdict::Rivals {
+            count,
+            lowest,
+            second,
+        },
     }
 }
 

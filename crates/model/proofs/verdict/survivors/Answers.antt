@@ -1,18 +1,15 @@
-use Rattle.std.proofs.Common.{sym, ◌∙◌, arith}
-use Rattle.model.proofs.Counts.{count_none, count_yes, count_no, count_le}
+use Rattle.std.proofs.Common.{rules, ◌∙◌, arith}
+use borrow.Author.Tests.{tests}
+use Rattle.std.proofs.lemmas.Iterator.{YieldsList-from_range}
+use Rattle.std.proofs.lemmas.Iterator.Consumers.{count_from_yields_List, YieldsList-from_filter, YieldsList-at}
+use Rattle.model.proofs.Ranges.{counted}
 use Rattle.model.proofs.verdict.survivors.Goals as goal
-use Rattle.model.proofs.verdict.survivors.Goals.{then-survives, else-survives}
 
-pub loop-world-init : goal.loop-world-init
-loop-world-init g c = sym (count_none (g.M.Model.meaning c.args.model.now).survives)
-
-pub overflow_add-total : goal.overflow_add-total
-overflow_add-total g c = omega (arith, count_le (g.M.Model.meaning c.args.model.now).survives c.loop-world.world)
-
-pub loop-world-preserved : goal.loop-world-preserved
-loop-world-preserved g c =
-    let p = (g.M.Model.meaning c.args.model.now).survives in
-    elim c.if-survives.branch [
-      | then-survives w ↦ w.total-is ∙ count_yes p c.loop-world.world c.loop-world.total c.loop-world.invariant (sym w.if-survives.ensures)
-      | else-survives w ↦ w.total-is ∙ count_no p c.loop-world.world c.loop-world.total c.loop-world.invariant (sym w.if-survives.ensures)
-    ]
+pub returns : goal.returns
+returns g c =
+    let m = g.M.Model.meaning c.args.model.now in record {
+      counts_the_survivors =
+          count_from_yields_List c.filter.result c.count.result c.count.ensures.ran
+          (YieldsList-from_filter _ m.survives (YieldsList-at c.filter.ensures.source (YieldsList-from_range 0 c.width.result m.width (cc) (omega arith))) c.filter.ensures.closure (λ x r q k. search (rules, tests)))
+          ∙ counted m.survives m.width;
+    }
