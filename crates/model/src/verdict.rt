@@ -21,13 +21,26 @@ pub enum Verdict {
     },
 }
 
+// How many worlds below an end survive.
+fn survivors_below<M: Model>(model: &M, end: u16) -> u16
+    ensures { result ≡ count (M.meaning model.now).survives «end» }
+{
+    (0..end).filter(|world| model.survives(*world)).count() as u16
+}
+
 // How many worlds survive.
 pub fn survivors<M: Model>(model: &M) -> u16
     ensures counts_the_survivors { result ≡ count (M.meaning model.now).survives (M.meaning model.now).width }
 {
-    (0..model.width())
-        .filter(|world| model.survives(*world))
-        .count() as u16
+    survivors_below(model, model.width())
+}
+
+// The lowest surviving world from a number on and below an end, if there is one.
+fn lowest_between<M: Model>(model: &M, from: u16, end: u16) -> Option<u16>
+    ensures least { unwrap_or result «end» ≡ least (survives_from (M.meaning model.now) from) «end» }
+    ensures survives { IfSome result (λ w. (M.meaning model.now).survives w ≡ true) }
+{
+    (from..end).find(|world| model.survives(*world))
 }
 
 // The lowest surviving world from a number on, if there is one.
@@ -35,7 +48,7 @@ pub fn lowest_from<M: Model>(model: &M, from: u16) -> Option<u16>
     ensures is_the_lowest_survivor_from_there { unwrap_or result (M.meaning model.now).width ≡ least (survives_from (M.meaning model.now) from) (M.meaning model.now).width }
     ensures is_a_survivor { IfSome result (λ w. (M.meaning model.now).survives w ≡ true) }
 {
-    (from..model.width()).find(|world| model.survives(*world))
+    lowest_between(model, from, model.width())
 }
 
 // The verdict on a model of which the survivors are counted.

@@ -40,6 +40,10 @@ unfolding pairs
 pairs_none x sum h = let e : sum - x ≡ 0 = omega arith in ap (λ (n : ℕ). flat_map (row sum) (range_with_len x n)) e
 
 -- the pairs are counted by rows
+pub pairs_by_rows : (low sum : ℕ) → sum_by (λ x. sum - 2 * x) (range_with_len low (sum - low)) ≡ length (pairs low sum)
+unfolding pairs
+pairs_by_rows low sum = ?
+
 pub count_step : (x sum : ℕ) → x < sum → length (pairs x sum) ≡ (sum - 2 * x) + length (pairs (x + 1) sum)
 count_step x sum h =
     ap length (pairs_step x sum h) ∙ length-append (row sum x) (pairs (x + 1) sum) ∙ ap (λ (n : ℕ). n + length (pairs (x + 1) sum)) (length_row sum x)

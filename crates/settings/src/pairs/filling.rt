@@ -11,16 +11,19 @@ use model::refusals::Refusal;
 // The greatest number of a pair.
 const MAX_NUMBER: u16 = 255;
 
+// How many pairs there are of which x is the lower number.
+fn row_len(x: u16, sum: u16) -> usize
+    ensures counts { result ≡ sum - 2 * x }
+{
+    sum.saturating_sub(x).saturating_sub(x) as usize
+}
+
 // How many pairs there are.
 fn count_pairs(low: u16, sum: u16) -> usize
     requires small_sum { sum ≤ 510 }
     ensures counts { result ≡ length (pairs low sum) }
 {
-    let mut count = 0;
-    for x in low..sum {
-        count += sum.saturating_sub(2 * x) as usize;
-    }
-    count
+    (low..sum).map(|x| row_len(x, sum)).sum()
 }
 
 // Writes the pairs of which x is the lower number, from the place `start` on, and returns the place after them.
@@ -32,12 +35,11 @@ fn write_row(list: &mut [Pair], start: usize, x: u16, sum: u16) -> usize
     ensures next_place { result ≡ start + (sum - 2 * x) }
     ensures writes_the_row { map numbers list.new ≡ sets (map numbers list.old) start (row sum x) }
 {
-    let mut place = start;
-    for y in x + 1..sum.saturating_sub(x) + 1 {
-        list[place] = Pair::new(x as u8, y as u8);
-        place += 1;
+    let end = start + row_len(x, sum);
+    for (place, y) in list[start..end].iter_mut().zip(x + 1..sum) {
+        *place = Pair::new(x as u8, y as u8);
     }
-    place
+    end
 }
 
 // How many pairs go into a list of so many places, or why none do.

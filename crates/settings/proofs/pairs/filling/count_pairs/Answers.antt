@@ -1,9 +1,13 @@
-use Rattle.std.proofs.Common.{arith}
-use Rattle.settings.proofs.Listing.{count_step, count_none}
+use Rattle.std.proofs.Common.{rules, ◌≡◌, ◌+◌, ◌-◌, ◌*◌, ◌≤◌, true, map, length, is_ok, ℕ, ◌<◌, ◌/◌, ◌%◌, Bool, false, nat_eq, nat_lt, List, [], ◌∷◌, ◌++◌, slice_index_or, slice_set, bit_and, bit_or, Fits, w8, w32, w64, Bor, MutBor}
+use Rattle.std.proofs.lemmas.List.Edits.{sets}
+use Rattle.settings.specs.Pairs.{row, pairs, fill_answer, filled, PairsListed}
+use Rattle.settings.specs.Readings.{numbers}
 use Rattle.settings.proofs.pairs.filling.count_pairs.Goals as goal
 
-pub loop-x-preserved : goal.loop-x-preserved
-loop-x-preserved c = let e = count_step c.loop-x.x c.args.sum (omega arith) in (omega arith, omega arith)
+-- src/pairs/filling.rt:26:5
+pub sum-requires-clause-fits : goal.sum-requires-clause-fits
+sum-requires-clause-fits c = ?
 
+-- src/pairs/filling.rt:22:1
 pub returns : goal.returns
-returns c = let e = count_none c.loop-x.x c.args.sum (omega arith) in record { counts = omega arith }
+returns c = ?
