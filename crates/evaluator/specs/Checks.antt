@@ -5,7 +5,9 @@ use Rattle.model.specs.declared.refusals.Refusal.TheVariants.{NodeCount, BadNode
 use Rattle.model.specs.Meaning.{Meaning}
 use Rattle.model.specs.Rows.{words, least}
 use Rattle.theory.specs.declared.node.Node.{Node}
-use Rattle.theory.specs.Formula.{Shape, shape}
+use Rattle.theory.specs.declared.node.Shape.{Shape}
+use Rattle.theory.specs.declared.node.Shape.TheVariants as node
+use Rattle.theory.specs.Formula.{shape}
 
 -- causes of refusal in their order, each with whether it applies
 abbrev pub Causes : Type 0
@@ -27,13 +29,13 @@ usable len used root = nat_lt 0 used && nat_le used len && nat_le used 4096 && n
 
 -- the agents, facts and quantities that a node names are there, and the nodes stand before its place
 abbrev pub names_there : Meaning → ℕ → Shape → Bool
-names_there m place Shape.top = true
-names_there m place (Shape.fact f) = nat_lt f m.facts
-names_there m place (Shape.equals q v) = nat_lt q m.quantities
-names_there m place (Shape.neg i) = nat_lt i place
-names_there m place (Shape.both i j) = nat_lt i place && nat_lt j place
-names_there m place (Shape.knows p i) = nat_lt p m.agents && nat_lt i place
-names_there m place (Shape.value p q i) = nat_lt p m.agents && nat_lt q m.quantities && nat_lt i place
+names_there m place node.Top = true
+names_there m place (node.Fact f) = nat_lt f m.facts
+names_there m place (node.Equals q v) = nat_lt q m.quantities
+names_there m place (node.Not i) = nat_lt i place
+names_there m place (node.Both i j) = nat_lt i place && nat_lt j place
+names_there m place (node.Knows p i) = nat_lt p m.agents && nat_lt i place
+names_there m place (node.Value p q i) = nat_lt p m.agents && nat_lt q m.quantities && nat_lt i place
 
 -- the node has a kind, and names what is there
 abbrev pub sound : Meaning → ℕ → Node → Bool

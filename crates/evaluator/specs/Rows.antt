@@ -3,7 +3,9 @@ use Rattle.std.specs.Prelude.{◌≡◌, ℕ, zero, suc, ◌+◌, ◌*◌, ◌<�
 use Rattle.model.specs.Meaning.{Meaning}
 use Rattle.model.specs.Rows.{words, bit, with_world}
 use Rattle.theory.specs.declared.node.Node.{Node}
-use Rattle.theory.specs.Formula.{Shape, formula}
+use Rattle.theory.specs.declared.node.Shape.{Shape}
+use Rattle.theory.specs.declared.node.Shape.TheVariants as node
+use Rattle.theory.specs.Formula.{formula}
 use Rattle.theory.specs.Truth.{reaches, everywhere, constant, holds}
 use Rattle.evaluator.specs.Checks.{sound, no_node}
 
@@ -34,23 +36,23 @@ rows_of m ns (suc n) = rows_of m ns n ++ node_row m ns n
 
 -- whether a shape is true at a surviving world, where `at i v` says whether node i is true at v
 abbrev pub says : Meaning → (ℕ → ℕ → Bool) → Shape → ℕ → Bool
-says m at Shape.top w = true
-says m at (Shape.fact f) w = m.fact f w
-says m at (Shape.equals q x) w = m.quantity q w == x
-says m at (Shape.neg i) w = not (at i w)
-says m at (Shape.both i j) w = at i w && at j w
-says m at (Shape.knows p i) w = everywhere m p w (at i)
-says m at (Shape.value p q i) w = constant m q (λ v. reaches m p w v && at i v)
+says m at node.Top w = true
+says m at (node.Fact f) w = m.fact f w
+says m at (node.Equals q x) w = m.quantity q w == x
+says m at (node.Not i) w = not (at i w)
+says m at (node.Both i j) w = at i w && at j w
+says m at (node.Knows p i) w = everywhere m p w (at i)
+says m at (node.Value p q i) w = constant m q (λ v. reaches m p w v && at i v)
 
 -- the rows that a shape names are in a work area of so many words
 abbrev pub RowsThere : Shape → ℕ → ℕ → Type 0
-RowsThere Shape.top r room = Unit {0}
-RowsThere (Shape.fact f) r room = Unit {0}
-RowsThere (Shape.equals q x) r room = Unit {0}
-RowsThere (Shape.neg i) r room = i * r + r ≤ room
-RowsThere (Shape.both i j) r room = (i * r + r ≤ room) × (j * r + r ≤ room)
-RowsThere (Shape.knows p i) r room = i * r + r ≤ room
-RowsThere (Shape.value p q i) r room = i * r + r ≤ room
+RowsThere node.Top r room = Unit {0}
+RowsThere (node.Fact f) r room = Unit {0}
+RowsThere (node.Equals q x) r room = Unit {0}
+RowsThere (node.Not i) r room = i * r + r ≤ room
+RowsThere (node.Both i j) r room = (i * r + r ≤ room) × (j * r + r ≤ room)
+RowsThere (node.Knows p i) r room = i * r + r ≤ room
+RowsThere (node.Value p q i) r room = i * r + r ≤ room
 
 -- node i can be evaluated in a work area with r words to a row, where the rows of the nodes before it stand
 pub record Ready (m : Meaning) (ns : List Node) (i r : ℕ) (work : List ℕ) : Type 0 where

@@ -1,29 +1,21 @@
 -- Lists of number pairs: how they are counted and written, and that they hold just the pairs within the bounds.
-use Rattle.std.proofs.Common.{◌≡◌, ℕ, zero, suc, ◌+◌, ◌-◌, ◌*◌, ◌<◌, ◌≤◌, Bool, true, false, cond, ◌||◌, eqb, ltb, leb, List, [], ◌∷◌, ◌++◌, map, length, drop, set, is_ok, Ok, Err, Result, sym, refl, ap, ◌∙◌, subst, ap₂, inl, inr, ⊎_elim, add-one, arith}
+use Rattle.std.proofs.Common.{◌≡◌, ℕ, zero, suc, ◌+◌, ◌-◌, ◌*◌, ◌<◌, ◌≤◌, Bool, true, false, cond, ◌||◌, eqb, ltb, leb, List, [], ◌∷◌, ◌++◌, map, length, take, drop, take_all, set, is_ok, Ok, Err, Result, sym, refl, ap, ◌∙◌, subst, ap₂, inl, inr, ⊎_elim, arith}
 use lib.Seq.{sets, sets-eq}
-use Rattle.std.specs.List.{range_with_len, ContainsAt as Has, flat_map, AllByRecursion}
-use Rattle.std.proofs.lemmas.List.FromFn.{length-map-range_with_len}
+use borrow.Rule.Slice.PartMut.{put_mid}
+use Rattle.std.proofs.lemmas.List.Sums.{sum_by-cons}
+use Rattle.std.specs.List.{range_with_len, sum_by, ContainsAt as Has, flat_map, AllByRecursion}
+use Rattle.std.proofs.lemmas.List.FromFn.{length-map-range_with_len, map-range_with_len_more}
 use Rattle.std.proofs.ByRecursion.{All-append, all-has, All-weaker, has_append_left, has_append_right}
-use Rattle.std.proofs.lemmas.List.{length-append, length-map, map-set}
+use Rattle.std.proofs.lemmas.List.{append_assoc, length-append, length-map, map-set, map-append, take-map, drop-map, drop-drop, take_more_set}
 use Rattle.std.proofs.lemmas.Bool.{cases_eq, leb-false, ltb-false, or_parts, true≢false}
 use Rattle.model.specs.declared.refusals.Refusal.{Refusal}
 use Rattle.model.specs.declared.refusals.Refusal.TheVariants.{PairBounds, CaseCount, ShortList}
 use Rattle.settings.specs.Pairs.{row_from, row, pairs, fill_answer, laid, filled, Before, Ascending, Bounded, PairsListed}
 
--- a row by its first pair
-pub row_step : (x y end : ℕ) → y < end → row_from x y (end - y) ≡ (x, y) ∷ row_from x (y + 1) (end - (y + 1))
-unfolding row_from
-row_step x y end h =
-    let e : end - y ≡ suc (end - (y + 1)) = omega arith in ap (λ (n : ℕ). map (λ z. (x, z)) (range_with_len y n)) e
-
-pub row_none : (x y end : ℕ) → end ≤ y → row_from x y (end - y) ≡ []
-unfolding row_from
-row_none x y end h = let e : end - y ≡ 0 = omega arith in ap (λ (n : ℕ). map (λ z. (x, z)) (range_with_len y n)) e
-
--- the whole row of x
-pub row_whole : (x sum : ℕ) → row_from x (x + 1) (sum - x + 1 - (x + 1)) ≡ row sum x
+-- a row of so many pairs
+pub row_by_length : (sum x n : ℕ) → n ≡ sum - 2 * x → row_from x (x + 1) n ≡ row sum x
 unfolding row
-row_whole x sum = let e : sum - x + 1 - (x + 1) ≡ sum - 2 * x = omega arith in ap (row_from x (x + 1)) e
+row_by_length sum x n e = ap (row_from x (x + 1)) e
 
 pub length_row : (sum x : ℕ) → length (row sum x) ≡ sum - 2 * x
 unfolding row row_from
@@ -40,9 +32,20 @@ unfolding pairs
 pairs_none x sum h = let e : sum - x ≡ 0 = omega arith in ap (λ (n : ℕ). flat_map (row sum) (range_with_len x n)) e
 
 -- the pairs are counted by rows
+rows_counted : (low n sum : ℕ) → sum_by (λ x. sum - 2 * x) (range_with_len low n) ≡ length (flat_map (row sum) (range_with_len low n))
+rows_counted low zero sum = refl
+rows_counted low (suc n) sum =
+    sum_by-cons (λ x. sum - 2 * x) low (range_with_len (low + 1) n)
+    ∙ ap₂ ◌+◌ (sym (length_row sum low)) (rows_counted (low + 1) n sum)
+    ∙ sym (length-append (row sum low) (flat_map (row sum) (range_with_len (low + 1) n)))
+
 pub pairs_by_rows : (low sum : ℕ) → sum_by (λ x. sum - 2 * x) (range_with_len low (sum - low)) ≡ length (pairs low sum)
 unfolding pairs
-pairs_by_rows low sum = ?
+pairs_by_rows low sum = rows_counted low (sum - low) sum
+
+pub few_pairs : (low n sum : ℕ) → sum ≤ 510 → sum_by (λ x. sum - 2 * x) (range_with_len low n) ≤ 510 * n
+few_pairs low zero sum h = omega arith
+few_pairs low (suc n) sum h = omega (arith, sum_by-cons (λ x. sum - 2 * x) low (range_with_len (low + 1) n), few_pairs (low + 1) n sum h)
 
 pub count_step : (x sum : ℕ) → x < sum → length (pairs x sum) ≡ (sum - 2 * x) + length (pairs (x + 1) sum)
 count_step x sum h =
@@ -59,18 +62,32 @@ sets_append (v ∷ vs) ws l i =
     sets_append vs ws (set l i v) (suc i) ∙ ap (λ (n : ℕ). sets (sets (set l i v) (suc i) vs) n ws) e
 
 module _ {P : Type 0} (f : P → ℕ × ℕ) where
-  -- after a pair is written, the rest of its row is left to write
-  pub row_more : (xs : List P) (i x y end : ℕ) (a : P) (all : List (ℕ × ℕ)) → y < end → f a ≡ (x, y)
-      → sets (map f xs) i (row_from x y (end - y)) ≡ all
-      → sets (map f (set xs i a)) (i + 1) (row_from x (y + 1) (end - (y + 1))) ≡ all
-  row_more xs i x y end a all h e inv =
-      ap₂ (λ (l : List (ℕ × ℕ)) (n : ℕ). sets l n (row_from x (y + 1) (end - (y + 1)))) (map-set f xs i a ∙ ap (set (map f xs) i) e) (add-one i)
-      ∙ sym (ap (sets (map f xs) i) (row_step x y end h)) ∙ inv
+  -- a row, written pair by pair
+  pub row_begun : (xs : List P) (x : ℕ) → take 0 (map f xs) ≡ row_from x (x + 1) 0
+  unfolding row_from
+  row_begun xs x = refl
 
-  -- after the last pair nothing is left
-  pub row_all : (xs : List P) (i x y end : ℕ) (all : List (ℕ × ℕ)) → end ≤ y
-      → sets (map f xs) i (row_from x y (end - y)) ≡ all → map f xs ≡ all
-  row_all xs i x y end all h inv = sym (ap (sets (map f xs) i) (row_none x y end h)) ∙ inv
+  pub row_further : (xs : List P) (i x : ℕ) (a : P) → i < length xs → f a ≡ (x, x + 1 + i)
+      → take i (map f xs) ≡ row_from x (x + 1) i → take (i + 1) (map f (set xs i a)) ≡ row_from x (x + 1) (i + 1)
+  unfolding row_from
+  row_further xs i x a h e inv =
+      ap (take (i + 1)) (map-set f xs i a) ∙ take_more_set (map f xs) i (f a) (omega (arith, length-map xs f))
+      ∙ ap₂ (λ (l : List (ℕ × ℕ)) (p : ℕ × ℕ). l ++ p ∷ []) inv e
+      ∙ sym (map-range_with_len_more (λ z. (x, z)) (x + 1) i (x + 1 + i) refl)
+
+  pub row_written : (xs : List P) (x i n : ℕ) → length xs ≡ n → i ≡ n → take i (map f xs) ≡ row_from x (x + 1) i → map f xs ≡ row_from x (x + 1) n
+  row_written xs x i n e h inv = sym (take_all i (map f xs) (omega (arith, length-map xs f))) ∙ inv ∙ ap (row_from x (x + 1)) h
+
+  -- a row in its place
+  pub row_placed : (xs ys : List P) (i n : ℕ) (vs : List (ℕ × ℕ)) → map f ys ≡ vs → length vs ≡ n → i + n ≤ length xs → map f (put_mid i n xs ys) ≡ sets (map f xs) i vs
+  row_placed xs ys i n vs e h room =
+      map-append f (take i xs) (ys ++ drop n (drop i xs))
+      ∙ ap₂ ◌++◌ (sym (take-map f i xs)) (map-append f ys (drop n (drop i xs)) ∙ ap₂ ◌++◌ e rest)
+      ∙ sym (append_assoc (take i (map f xs)) vs (drop (i + length vs) (map f xs)))
+      ∙ sym (sets-eq vs (map f xs) i (omega (arith, length-map xs f)))
+    where
+      rest : map f (drop n (drop i xs)) ≡ drop (i + length vs) (map f xs)
+      rest = let k : i + length vs ≡ i + n = omega arith in ap (map f) (drop-drop n i xs) ∙ sym (drop-map f (i + n) xs) ∙ ap (λ (j : ℕ). drop j (map f xs)) (sym k)
 
   -- after a row is written, the later rows are left to write
   pub rows_more : (xs ys : List P) (i j x sum : ℕ) (all : List (ℕ × ℕ)) → x < sum

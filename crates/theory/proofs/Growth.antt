@@ -2,7 +2,9 @@
 use Rattle.std.proofs.Common.{◌≡◌, ℕ, zero, suc, ◌+◌, ◌<◌, List, [], ◌∷◌, ◌++◌, length, get_or, sym, refl, ap, ◌∙◌, subst, ap₂, arith, length-append, get_or-append-add}
 use lib.ListN.{get_or-append}
 use Rattle.theory.specs.declared.node.Node.{Node}
-use Rattle.theory.specs.Formula.{Formula, Shape, shape, build, grow, formula, Earlier}
+use Rattle.theory.specs.declared.node.Shape.{Shape}
+use Rattle.theory.specs.declared.node.Shape.TheVariants as node
+use Rattle.theory.specs.Formula.{Formula, shape, build, grow, formula, Earlier}
 
 -- an entry stays as the list grows
 pub grow_keeps : (fs : List Formula) (ns : List Node) (i : ℕ) → i < length fs → get_or (grow fs ns) i Formula.top ≡ get_or fs i Formula.top
@@ -14,13 +16,13 @@ grow_keeps fs (n ∷ ns) i h =
 
 -- what is built goes by the named nodes alone
 pub build_same : (f g : ℕ → Formula) (k : ℕ) (s : Shape) → Earlier k s → ((i : ℕ) → i < k → f i ≡ g i) → build f s ≡ build g s
-build_same f g k Shape.top h e = refl
-build_same f g k (Shape.fact x) h e = refl
-build_same f g k (Shape.equals q v) h e = refl
-build_same f g k (Shape.neg i) h e = ap Formula.neg (e i h)
-build_same f g k (Shape.both i j) h e = ap₂ Formula.both (e i h.0) (e j h.1)
-build_same f g k (Shape.knows p i) h e = ap (Formula.knows p) (e i h)
-build_same f g k (Shape.value p q i) h e = ap (Formula.value p q) (e i h)
+build_same f g k node.Top h e = refl
+build_same f g k (node.Fact x) h e = refl
+build_same f g k (node.Equals q v) h e = refl
+build_same f g k (node.Not i) h e = ap Formula.neg (e i h)
+build_same f g k (node.Both i j) h e = ap₂ Formula.both (e i h.0) (e j h.1)
+build_same f g k (node.Knows p i) h e = ap (Formula.knows p) (e i h)
+build_same f g k (node.Value p q i) h e = ap (Formula.value p q) (e i h)
 
 -- the entry of a node that is still to come
 grown : (fs : List Formula) (ns : List Node) (none : Node) (k : ℕ) → k < length ns → Earlier (length fs + k) (shape (get_or ns k none))

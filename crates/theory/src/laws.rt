@@ -2,8 +2,6 @@
 ghost use Rattle.theory.specs.Truth.{TruthDecided};
 
 // The test of a formula at a world finds exactly its truth.
-pub fn truth_is_decided() -> u8
+pub fn truth_is_decided()
     ensures truth_is_decided { TruthDecided }
-{
-    0
-}
+{}

@@ -1,7 +1,6 @@
 // Lists of all number pairs within bounds.
-ghost use Rattle.std.specs.Prelude.{◌≡◌, ◌+◌, ◌-◌, ◌*◌, ◌≤◌, true, map, length, is_ok};
-ghost use Rattle.std.proofs.lemmas.List.Edits.{sets};
-ghost use Rattle.settings.specs.Pairs.{row, pairs, fill_answer, filled, PairsListed};
+ghost use Rattle.std.specs.Prelude.{◌≡◌, ℕ, ◌+◌, ◌-◌, ◌*◌, ◌<◌, ◌≤◌, true, map, length, is_ok};
+ghost use Rattle.settings.specs.Pairs.{row_from, pairs, fill_answer, filled, PairsListed};
 ghost use Rattle.settings.specs.Readings.{numbers};
 
 use crate::cases::MAX_CASES;
@@ -26,20 +25,14 @@ fn count_pairs(low: u16, sum: u16) -> usize
     (low..sum).map(|x| row_len(x, sum)).sum()
 }
 
-// Writes the pairs of which x is the lower number, from the place `start` on, and returns the place after them.
-fn write_row(list: &mut [Pair], start: usize, x: u16, sum: u16) -> usize
-    requires small_sum { sum ≤ 510 }
-    requires small_lower { x ≤ 510 }
-    requires small_greater { sum - x ≤ 255 }
-    requires has_room { start + (sum - 2 * x) ≤ length list.old }
-    ensures next_place { result ≡ start + (sum - 2 * x) }
-    ensures writes_the_row { map numbers list.new ≡ sets (map numbers list.old) start (row sum x) }
+// Writes the pairs of which x is the lower number, in order of the greater.
+fn write_row(row: &mut [Pair], x: u16)
+    requires small_greater { (k : ℕ) → k < length row.old → x + 1 + k ≤ 255 }
+    ensures writes_the_row { map numbers row.new ≡ row_from x (x + 1) (length row.old) }
 {
-    let end = start + row_len(x, sum);
-    for (place, y) in list[start..end].iter_mut().zip(x + 1..sum) {
-        *place = Pair::new(x as u8, y as u8);
+    for (place, pair) in row.iter_mut().enumerate() {
+        *pair = Pair::new(x as u8, x as u8 + 1 + place as u8);
     }
-    end
 }
 
 // How many pairs go into a list of so many places, or why none do.
@@ -65,9 +58,11 @@ fn write_pairs(list: &mut [Pair], low: u16, sum: u16)
     requires is_admitted { is_ok (fill_answer low sum (length list.old)) ≡ true }
     ensures fills_the_front { map numbers list.new ≡ filled low sum (map numbers list.old) }
 {
-    let mut place = 0;
+    let mut start = 0;
     for x in low..sum {
-        place = write_row(list, place, x, sum);
+        let end = start + row_len(x, sum);
+        write_row(&mut list[start..end], x);
+        start = end;
     }
 }
 
@@ -84,8 +79,6 @@ pub fn fill_pairs(list: &mut [Pair], low: u16, sum: u16) -> Result<usize, Refusa
 }
 
 // The pairs of `fill_pairs` are those within the bounds, each once and in order.
-pub fn pairs_are_listed() -> u8
+pub fn pairs_are_listed()
     ensures lists_the_pairs { PairsListed }
-{
-    0
-}
+{}

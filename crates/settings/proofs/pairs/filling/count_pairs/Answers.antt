@@ -1,13 +1,21 @@
-use Rattle.std.proofs.Common.{rules, ◌≡◌, ◌+◌, ◌-◌, ◌*◌, ◌≤◌, true, map, length, is_ok, ℕ, ◌<◌, ◌/◌, ◌%◌, Bool, false, nat_eq, nat_lt, List, [], ◌∷◌, ◌++◌, slice_index_or, slice_set, bit_and, bit_or, Fits, w8, w32, w64, Bor, MutBor}
-use Rattle.std.proofs.lemmas.List.Edits.{sets}
-use Rattle.settings.specs.Pairs.{row, pairs, fill_answer, filled, PairsListed}
-use Rattle.settings.specs.Readings.{numbers}
+use Rattle.std.proofs.Common.{rules, ◌-◌, ◌*◌, ◌^◌, refl, ◌∙◌, arith}
+use borrow.Author.Tests.{tests}
+use Rattle.std.specs.List.{range_with_len}
+use Rattle.std.proofs.lemmas.Iterator.{YieldsList-from_range, YieldsList-from_map}
+use Rattle.std.proofs.lemmas.Iterator.Consumers.{YieldsList-at, sum_by_from_yields_List, fits_by_from_yields_list}
+use Rattle.settings.proofs.Listing.{pairs_by_rows, few_pairs}
 use Rattle.settings.proofs.pairs.filling.count_pairs.Goals as goal
 
--- src/pairs/filling.rt:26:5
 pub sum-requires-clause-fits : goal.sum-requires-clause-fits
-sum-requires-clause-fits c = ?
+sum-requires-clause-fits c =
+    fits_by_from_yields_list (λ x. c.args.sum - 2 * x) (range_with_len c.args.low (c.args.sum - c.args.low)) c.map.result (2 ^ 64)
+    (YieldsList-from_map _ (λ x. c.args.sum - 2 * x) (YieldsList-at c.map.ensures.source (YieldsList-from_range c.args.low c.args.sum (c.args.sum - c.args.low) (cc) refl)) c.map.ensures.closure (λ x r q k. search (rules, tests)))
+    (omega (arith, few_pairs c.args.low (c.args.sum - c.args.low) c.args.sum c.requires.small_sum))
 
--- src/pairs/filling.rt:22:1
 pub returns : goal.returns
-returns c = ?
+returns c = record {
+  counts =
+      sum_by_from_yields_List (λ x. c.args.sum - 2 * x) (range_with_len c.args.low (c.args.sum - c.args.low)) c.map.result c.sum.result c.sum.ensures.ran
+      (YieldsList-from_map _ (λ x. c.args.sum - 2 * x) (YieldsList-at c.map.ensures.source (YieldsList-from_range c.args.low c.args.sum (c.args.sum - c.args.low) (cc) refl)) c.map.ensures.closure (λ x r q k. search (rules, tests)))
+      ∙ pairs_by_rows c.args.low c.args.sum;
+}
