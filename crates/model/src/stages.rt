@@ -12,6 +12,7 @@ use crate::rows::words_for;
 // A step is given a row, of which the bits at worlds that do not survive make no difference.
 // It is refused where the row has too few words, then where there is no such agent or fact,
 // then where the stage does not take it; a refusal leaves the stage as it was.
+// Clauses say `stage_of` of two ghost members: one for both was tried, and generic code does not know it by its default.
 pub trait Stage: Model {
     ghost takes: { Self → Takes };
 
