@@ -1,7 +1,6 @@
 // The looking layer: it fills its own slots before it hands a look down.
-ghost use Rattle.std.specs.Prelude.{◌≡◌, ◌≤◌, true, false, nat_lt};
-ghost use Rattle.model.specs.Actions.{Action};
-ghost use Rattle.model.specs.Stages.{stage_of, taken, Steps};
+ghost use Rattle.std.specs.Prelude.{◌≡◌};
+ghost use Rattle.model.specs.Stages.{stage_of};
 ghost use Rattle.model.proofs.Steps.{lawful_refined};
 ghost use Rattle.looking.specs.Slots.{kept};
 ghost use Rattle.looking.specs.Looks.{told};
@@ -12,7 +11,7 @@ use crate::looks::Slot;
 use crate::slots::{MAX_SLOTS, Slots};
 use model::questions::Model as PuzzleModel;
 use model::refusals::Refusal;
-use model::stages::{Stage, is_short};
+use model::stages::{Stage, check_number, check_row};
 
 // An agent also distinguishes what the looks that are kept tell it apart.
 #[derive(Drop)]
@@ -30,23 +29,6 @@ impl<S: Stage> LookingLayer<S> {
             below,
             table: Slots::new(Slot::blank()),
         }
-    }
-
-    // Keeps the look in a slot of its own, if one is empty.
-    fn keep(&mut self, agent: u16, row: &[u64]) -> bool
-        ensures keeps_while_a_slot_is_empty { result ≡ nat_lt self.old.table.used 16 }
-        ensures takes_the_look { result ≡ true → stage_of (looking_meaning S.Model.meaning) (looking_takes S.Stage.takes) self.new ≡ taken (Action.look agent row.now) (stage_of (looking_meaning S.Model.meaning) (looking_takes S.Stage.takes) self.old) }
-        ensures stays_when_full { result ≡ false → self.new ≡ self.old }
-    {
-        self.table.keep(agent, row)
-    }
-
-    // Has the look taken below.
-    fn hand_down(&mut self, agent: u16, row: &[u64]) -> Result<(), Refusal>
-        requires is_full { 16 ≤ self.old.table.used }
-        ensures takes_the_look_below { Steps (Action.look agent row.now) (stage_of (looking_meaning S.Model.meaning) (looking_takes S.Stage.takes) self.old) result (stage_of (looking_meaning S.Model.meaning) (looking_takes S.Stage.takes) self.new) }
-    {
-        self.below.look(agent, row)
     }
 }
 
@@ -108,16 +90,12 @@ impl<S: Stage> Stage for LookingLayer<S> {
     }
 
     fn look(&mut self, agent: u16, row: &[u64]) -> Result<(), Refusal> {
-        if is_short(row, &self.below) {
-            return Err(Refusal::ShortRow);
+        check_row(row, &self.below)?;
+        check_number(agent, self.below.agents())?;
+        match self.table.keep(agent, row) {
+            Some(()) => Ok(()),
+            None => self.below.look(agent, row),
         }
-        if agent >= self.below.agents() {
-            return Err(Refusal::NoSuch);
-        }
-        if self.keep(agent, row) {
-            return Ok(());
-        }
-        self.hand_down(agent, row)
     }
 
     fn put(&mut self, fact: u16, row: &[u64]) -> Result<(), Refusal> {

@@ -1,5 +1,6 @@
 // Looks: who looked, and at which row; and a table of them.
-ghost use Rattle.std.specs.Prelude.{◌≡◌, true, false, replicate, nat_lt};
+ghost use Rattle.std.specs.Prelude.{◌≡◌, replicate, is_some, nat_lt};
+ghost use Rattle.std.specs.Option.{OnSome, IfNone};
 ghost use Rattle.looking.specs.Slots.{Filled, kept};
 ghost use Rattle.looking.specs.Looks.{tells, told, HoldsLook};
 
@@ -7,7 +8,7 @@ use crate::slots::Slots;
 use model::rows::{MAX_WORDS, has_world, whole_row};
 
 // One look: the agent distinguishes worlds of which exactly one is in the row.
-#[derive(Clone, Copy)]
+#[derive(Clone, Copy, Debug, PartialEq, Eq)]
 pub struct Slot {
     agent: u16,
     row: [u64; MAX_WORDS],
@@ -42,29 +43,21 @@ impl Slot {
 
 impl Slots<Slot> {
     // Keeps the look in the next empty slot, if there is one.
-    pub fn keep(&mut self, agent: u16, row: &[u64]) -> bool
-        ensures keeps_while_a_slot_is_empty { result ≡ nat_lt self.old.used 16 }
-        ensures fills_the_next_slot { result ≡ true → ((s : Slot) × HoldsLook agent row.now s × Filled self.old s self.new) }
-        ensures stays_when_full { result ≡ false → self.new ≡ self.old }
+    pub fn keep(&mut self, agent: u16, row: &[u64]) -> Option<()>
+        ensures keeps_while_a_slot_is_empty { is_some result ≡ nat_lt self.old.used 16 }
+        ensures fills_the_next_slot { OnSome result ((s : Slot) × HoldsLook agent row.now s × Filled self.old s self.new) }
+        ensures stays_when_full { IfNone result (self.new ≡ self.old) }
     {
-        match self.next() {
-            Some(slot) => {
-                slot.fill(agent, row);
-                true
-            }
-            None => false,
-        }
+        self.next()?.fill(agent, row);
+        Some(())
     }
 
     // Whether a look that is kept tells the agent the two worlds apart.
     pub fn tell(&self, agent: u16, left: u16, right: u16) -> bool
         ensures asks_every_look { result ≡ told (kept self.now) agent left right }
     {
-        for slot in self.kept() {
-            if slot.tells(agent, left, right) {
-                return true;
-            }
-        }
-        false
+        self.kept()
+            .iter()
+            .any(|slot| slot.tells(agent, left, right))
     }
 }

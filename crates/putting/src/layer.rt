@@ -1,5 +1,5 @@
 // The putting layer: it keeps a row for each fact that was put, and always puts.
-ghost use Rattle.std.specs.Prelude.{◌≡◌, ◌<◌, replicate, None};
+ghost use Rattle.std.specs.Prelude.{◌≡◌, ◌<◌};
 ghost use Rattle.model.specs.Actions.{Action};
 ghost use Rattle.model.specs.Stages.{stage_of, taken};
 ghost use Rattle.model.proofs.Steps.{lawful_replaced};
@@ -9,7 +9,7 @@ ghost use Rattle.putting.specs.PutFacts.{put_facts_there};
 use model::questions::Model as PuzzleModel;
 use model::refusals::Refusal;
 use model::rows::{MAX_WORDS, has_world, whole_row};
-use model::stages::{Stage, is_short};
+use model::stages::{Stage, check_number, check_row};
 
 // How many facts a model can have.
 const MAX_FACTS: usize = 16;
@@ -26,15 +26,10 @@ impl<S: Stage> PuttingLayer<S> {
     pub fn new(below: S) -> PuttingLayer<S>
         ensures is_the_stage_below_and_puts { stage_of (putting_meaning S.Model.meaning) (putting_takes S.Stage.takes) result ≡ putting_stage (stage_of S.Model.meaning S.Stage.takes below) }
     {
-        PuttingLayer::keeping(below, [None; MAX_FACTS])
-    }
-
-    // A layer with no row kept.
-    fn keeping(below: S, rows: [Option<[u64; MAX_WORDS]>; MAX_FACTS]) -> PuttingLayer<S>
-        requires keeps_none { rows ≡ replicate 16 None }
-        ensures is_the_stage_below_and_puts { stage_of (putting_meaning S.Model.meaning) (putting_takes S.Stage.takes) result ≡ putting_stage (stage_of S.Model.meaning S.Stage.takes below) }
-    {
-        PuttingLayer { below, rows }
+        PuttingLayer {
+            below,
+            rows: [None; MAX_FACTS],
+        }
     }
 
     // Keeps the row for the fact.
@@ -114,12 +109,8 @@ impl<S: Stage> Stage for PuttingLayer<S> {
     }
 
     fn put(&mut self, fact: u16, row: &[u64]) -> Result<(), Refusal> {
-        if is_short(row, &self.below) {
-            return Err(Refusal::ShortRow);
-        }
-        if fact >= self.below.facts() {
-            return Err(Refusal::NoSuch);
-        }
+        check_row(row, &self.below)?;
+        check_number(fact, self.below.facts())?;
         self.keep(fact, row);
         Ok(())
     }

@@ -1,12 +1,11 @@
 // The floor: a stage over any model, that takes no step.
-ghost use Rattle.std.specs.Prelude.{◌≡◌, cond};
-ghost use Rattle.model.specs.declared.refusals.Refusal.TheVariants.{ShortRow, NoSuch, NotTaken};
+ghost use Rattle.std.specs.Prelude.{◌≡◌};
 ghost use Rattle.model.specs.Stages.{stage_of};
 ghost use Rattle.stages.specs.Layers.{floor_stage, floor_meaning, floor_takes};
 
 use model::questions::Model as PuzzleModel;
 use model::refusals::Refusal;
-use model::stages::{Stage, is_short};
+use model::stages::{Stage, check_number, check_row};
 
 #[derive(Drop)]
 pub struct Floor<M> {
@@ -76,29 +75,19 @@ impl<M: PuzzleModel> Stage for Floor<M> {
     }
 
     fn hear(&mut self, row: &[u64]) -> Result<(), Refusal> {
-        Err(refusal(is_short(row, &self.model), false))
+        check_row(row, &self.model)?;
+        Err(Refusal::NotTaken)
     }
 
     fn look(&mut self, agent: u16, row: &[u64]) -> Result<(), Refusal> {
-        let missing = agent >= self.model.agents();
-        Err(refusal(is_short(row, &self.model), missing))
+        check_row(row, &self.model)?;
+        check_number(agent, self.model.agents())?;
+        Err(Refusal::NotTaken)
     }
 
     fn put(&mut self, fact: u16, row: &[u64]) -> Result<(), Refusal> {
-        let absent = fact >= self.model.facts();
-        Err(refusal(is_short(row, &self.model), absent))
-    }
-}
-
-// Why a step is refused where none is taken.
-fn refusal(is_short: bool, is_missing: bool) -> Refusal
-    ensures is_the_first_cause { result ≡ cond is_short ShortRow (cond is_missing NoSuch NotTaken) }
-{
-    if is_short {
-        Refusal::ShortRow
-    } else if is_missing {
-        Refusal::NoSuch
-    } else {
-        Refusal::NotTaken
+        check_row(row, &self.model)?;
+        check_number(fact, self.model.facts())?;
+        Err(Refusal::NotTaken)
     }
 }

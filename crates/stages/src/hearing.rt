@@ -9,7 +9,8 @@ ghost use Rattle.stages.specs.Layers.{hearing_stage, hearing_meaning, hearing_ta
 use model::questions::Model as PuzzleModel;
 use model::refusals::Refusal;
 use model::rows::{MAX_WORDS, has_world, whole_row};
-use model::stages::{Stage, is_short};
+use model::stages::{Stage, check_row};
+use std::array;
 
 // Only the worlds of the row survive of those that survive below.
 #[derive(Drop)]
@@ -25,13 +26,11 @@ fn every_world() -> [u64; MAX_WORDS]
     [u64::MAX; MAX_WORDS]
 }
 
-// Keeps of a row what the other has too.
-fn narrow(row: &mut [u64; MAX_WORDS], other: &[u64; MAX_WORDS])
-    ensures keeps_what_both_have { (w : ℕ) → w < 4096 → bit row.new w ≡ (bit row.old w && bit other.now w) }
+// The worlds that both rows have.
+fn both_rows(row: &[u64; MAX_WORDS], other: &[u64; MAX_WORDS]) -> [u64; MAX_WORDS]
+    ensures has_what_both_have { (w : ℕ) → w < 4096 → bit result w ≡ (bit row.now w && bit other.now w) }
 {
-    for place in 0..MAX_WORDS {
-        row[place] &= other[place];
-    }
+    array::from_fn(|place| row[place] & other[place])
 }
 
 impl<S: Stage> HearingLayer<S> {
@@ -39,22 +38,17 @@ impl<S: Stage> HearingLayer<S> {
     pub fn new(below: S) -> HearingLayer<S>
         ensures is_the_stage_below_and_hears { stage_of (hearing_meaning S.Model.meaning) (hearing_takes S.Stage.takes) result ≡ hearing_stage (stage_of S.Model.meaning S.Stage.takes below) }
     {
-        HearingLayer::keeping(below, every_world())
-    }
-
-    // A layer that keeps a row of every world.
-    fn keeping(below: S, row: [u64; MAX_WORDS]) -> HearingLayer<S>
-        requires has_every_world { (w : ℕ) → w < 4096 → bit row w ≡ true }
-        ensures is_the_stage_below_and_hears { stage_of (hearing_meaning S.Model.meaning) (hearing_takes S.Stage.takes) result ≡ hearing_stage (stage_of S.Model.meaning S.Stage.takes below) }
-    {
-        HearingLayer { below, row }
+        HearingLayer {
+            below,
+            row: every_world(),
+        }
     }
 
     // Strikes the worlds that are not in the row.
     fn strike(&mut self, row: &[u64])
         ensures hears_the_row { stage_of (hearing_meaning S.Model.meaning) (hearing_takes S.Stage.takes) self.new ≡ taken (Action.hear row.now) (stage_of (hearing_meaning S.Model.meaning) (hearing_takes S.Stage.takes) self.old) }
     {
-        narrow(&mut self.row, &whole_row(row));
+        self.row = both_rows(&self.row, &whole_row(row));
     }
 }
 
@@ -117,9 +111,7 @@ impl<S: Stage> Stage for HearingLayer<S> {
     }
 
     fn hear(&mut self, row: &[u64]) -> Result<(), Refusal> {
-        if is_short(row, &self.below) {
-            return Err(Refusal::ShortRow);
-        }
+        check_row(row, &self.below)?;
         self.strike(row);
         Ok(())
     }

@@ -12,13 +12,14 @@ use model::refusals::Refusal;
 use model::stages::Stage;
 
 // Takes the steps one after another, and writes what each answered into the front of the list.
+// By places, since of a list that a `zip` of its `iter_mut` wrote the check knows the length alone.
 fn take_all<S: Stage>(stage: &mut S, steps: &[Step<'_>], answers: &mut [Result<(), Refusal>])
     requires has_room { length steps.now ≤ length answers.old }
     ensures takes_each_step { stage_of S.Model.meaning S.Stage.takes stage.new ≡ run (actions steps.now) (stage_of S.Model.meaning S.Stage.takes stage.old) }
     ensures writes_the_answers { answers.new ≡ replies (actions steps.now) (stage_of S.Model.meaning S.Stage.takes stage.old) ++ drop (length steps.now) answers.old }
 {
-    for place in 0..steps.len() {
-        answers[place] = take_step(stage, steps[place]);
+    for (place, step) in steps.iter().enumerate() {
+        answers[place] = take_step(stage, *step);
     }
 }
 

@@ -3,22 +3,11 @@ ghost use Rattle.std.specs.Prelude.{◌≡◌};
 ghost use Rattle.model.specs.Stages.{stage_of};
 ghost use Rattle.steps.specs.Requests.{actions};
 ghost use Rattle.steps.specs.Runs.{run};
-ghost use Rattle.steps.specs.Pairs.{reported, answer_alike, StayEqual};
+ghost use Rattle.steps.specs.Pairs.{answer_alike, StayEqual};
 
 use crate::requests::{Step, take_step};
 use model::questions::Model;
-use model::refusals::Refusal;
 use model::stages::Stage;
-
-// The number that is reported of an answer: 0, or the refusal's.
-fn reported(answer: Result<(), Refusal>) -> u16
-    ensures is_the_number { result ≡ reported answer }
-{
-    match answer {
-        Ok(()) => 0,
-        Err(refusal) => refusal.number(),
-    }
-}
 
 // Takes each step on both stages, and says whether they answered every step alike.
 pub fn take_on_both<S: Stage, T: Stage>(left: &mut S, right: &mut T, steps: &[Step<'_>]) -> bool
@@ -31,7 +20,7 @@ pub fn take_on_both<S: Stage, T: Stage>(left: &mut S, right: &mut T, steps: &[St
     for step in steps {
         let first = take_step(left, *step);
         let second = take_step(right, *step);
-        same &= reported(first) == reported(second);
+        same &= first == second;
     }
     same
 }

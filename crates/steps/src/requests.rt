@@ -7,8 +7,8 @@ use model::questions::Model;
 use model::refusals::Refusal;
 use model::stages::Stage;
 
-// A step that a stage is asked to take, with its row.
-#[derive(Clone, Copy)]
+// A step that a stage is asked to take, with its row: a value and no closure, since lists of steps are what theorems speak of.
+#[derive(Clone, Copy, Debug, PartialEq, Eq)]
 pub enum Step<'a> {
     Hear(&'a [u64]),
     // By that agent.

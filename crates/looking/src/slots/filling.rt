@@ -31,8 +31,7 @@ impl<T> Slots<T> {
     pub fn kept(&self) -> &[T]
         ensures gives_the_filled_slots { result.now ≡ kept self.now }
     {
-        let slots = &self.slots;
-        &slots[..self.used]
+        &self.slots[..self.used]
     }
 
     // The next empty slot, lent to be filled: when the loan ends it is filled with what was written there.

@@ -1,7 +1,5 @@
-use Rattle.std.proofs.Common.{◌≡◌, ℕ, ◌<◌, ◌++◌, length, take, drop, refl, ap, ◌∙◌, ap₂, arith}
-use Rattle.std.proofs.lemmas.List.{take_all}
+use Rattle.std.proofs.Common.{◌<◌, length, refl, arith}
 use Rattle.model.specs.Stages.{stage_of}
-use Rattle.steps.specs.Requests.{actions}
 use Rattle.steps.specs.Runs.{run, replies}
 use Rattle.steps.proofs.Running.{run_more, replies_more}
 use Rattle.steps.proofs.lists.take_all.Goals as goal
@@ -20,14 +18,3 @@ loop-place-preserved g c =
       replies_more c.args.steps.now c.loop-place.place _ c.loop-place-test.true s s₁ c.take_step.result c.args.answers.now c.loop-place.answers room
           c.loop-place.invariant.0 c.loop-place.invariant.1 c.take_step.ensures.takes_the_step.answers,
     )
-
-pub returns : goal.returns
-returns g c =
-    let s = stage_of g.S.Model.meaning g.S.Stage.takes c.args.stage.now in
-    let steps = c.args.steps.now in
-    let all : take c.loop-place.place steps ≡ steps = take_all c.loop-place.place steps c.loop-place-test.false in
-    let end : c.loop-place.place ≡ length steps = omega arith in
-    record {
-      takes_each_step = c.loop-place.invariant.0 ∙ ap (λ xs. run (actions xs) s) all;
-      writes_the_answers = c.loop-place.invariant.1 ∙ ap₂ (λ xs (k : ℕ). replies (actions xs) s ++ drop k c.args.answers.now) all end;
-    }

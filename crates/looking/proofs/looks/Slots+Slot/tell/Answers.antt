@@ -1,25 +1,14 @@
-use Rattle.std.proofs.Common.{◌≡◌, take, sym, ap, ◌∙◌, arith}
-use Rattle.std.proofs.lemmas.List.{take_all}
+use Rattle.std.proofs.Common.{ap, ◌∙◌, sym, rules, tests}
+use Rattle.std.proofs.lemmas.Iterator.{YieldsList-from_slice}
+use Rattle.std.proofs.lemmas.Iterator.Search.{any_from_yields_List}
 use Rattle.looking.specs.Looks.{told}
-use Rattle.looking.proofs.Told.{told_more, told_found}
+use Rattle.looking.proofs.Told.{told_any}
 use Rattle.looking.proofs.looks.Slots+Slot.tell.Goals as goal
-
-pub returns-then-tells : goal.returns-then-tells
-returns-then-tells c =
-    let items = c.kept-slot-items.result.now in
-    record {
-      asks_every_look = sym (told_found c.args.agent c.args.left c.args.right items c.loop-slot.slot-index _ c.loop-slot-test.true (sym c.if-tells.ensures.compares_the_two_bits))
-          ∙ ap (λ ss. told ss c.args.agent c.args.left c.args.right) c.kept-slot-items.ensures.gives_the_filled_slots;
-    }
-
-pub loop-slot-preserved : goal.loop-slot-preserved
-loop-slot-preserved c =
-    told_more c.args.agent c.args.left c.args.right c.kept-slot-items.result.now c.loop-slot.slot-index _ c.loop-slot-test.true c.loop-slot.invariant (sym c.if-tells.ensures.compares_the_two_bits)
 
 pub returns : goal.returns
 returns c =
-    let items = c.kept-slot-items.result.now in
-    let all : take c.loop-slot.slot-index items ≡ items = take_all c.loop-slot.slot-index items (omega arith) in
+    let items = c.kept.result.now in
     record {
-      asks_every_look = sym (ap (λ ss. told ss c.args.agent c.args.left c.args.right) (sym c.kept-slot-items.ensures.gives_the_filled_slots ∙ sym all) ∙ c.loop-slot.invariant);
+      asks_every_look = any_from_yields_List _ _ _ _ c.any.ensures.ran (YieldsList-from_slice items cc) (λ x b q k. search (rules, tests))
+          ∙ sym (told_any c.args.agent c.args.left c.args.right items) ∙ ap (λ ss. told ss c.args.agent c.args.left c.args.right) c.kept.ensures.gives_the_filled_slots;
     }

@@ -12,7 +12,7 @@ returns g c =
     let below = c.args.self.now.below in
     let law = g.S.Model.lawful below in
     let within : (w : ℕ) → (g.S.Model.meaning below).survives w ≡ true → w < 4096 = λ w e. omega (arith, law.within w e, law.few_worlds) in
-    let both = heard_both (g.S.Model.meaning below) law (bit c.args.self.now.row) (bit c.args.row.now) (bit c.narrow.new.row)
-    (λ w e. c.narrow.ensures.keeps_what_both_have w (within w e)
+    let both = heard_both (g.S.Model.meaning below) law (bit c.args.self.now.row) (bit c.args.row.now) (bit c.both_rows-self.result)
+    (λ w e. c.both_rows-self.ensures.has_what_both_have w (within w e)
     ∙ ap (λ (x : Bool). bit c.args.self.now.row w && x) (c.whole_row.ensures.has_the_same_worlds w (within w e))) in
     record { hears_the_row = λ i. record { model = both i; takes = and_hears (g.S.Stage.takes below) } }
