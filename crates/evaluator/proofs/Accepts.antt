@@ -2,11 +2,12 @@
 use Rattle.std.proofs.Common.{◌≡◌, ℕ, ◌+◌, ◌*◌, ◌<◌, ◌≤◌, Bool, true, false, cond, not, ◌&&◌, ltb, leb, List, length, get_or, is_ok, Ok, Err, Result, refl, ap, arith}
 use Rattle.std.proofs.lemmas.Bool.{false≢true, and_parts, ltb-true, ltb-false, leb-true, not-false}
 use Rattle.model.specs.declared.refusals.Refusal.{Refusal}
+use Rattle.model.specs.Causes.{first}
 use Rattle.model.specs.Meaning.{Meaning}
 use Rattle.model.specs.Rows.{words}
 use Rattle.model.proofs.Counts.{least_fits}
 use Rattle.theory.specs.declared.node.Node.{Node}
-use Rattle.evaluator.specs.Checks.{usable, sound, no_node, unsound, first_bad, faults, first, Fillable}
+use Rattle.evaluator.specs.Checks.{usable, sound, no_node, unsound, first_bad, faults, Fillable}
 
 -- a cause that does not apply
 passed : (b : Bool) (e : Refusal) (x : Result (Unit {0}) Refusal) → cond b (Err e) x ≡ Ok tt → (b ≡ false) × (x ≡ Ok tt)

@@ -2,26 +2,13 @@
 use Rattle.std.specs.Prelude.{◌≡◌, ℕ, ◌+◌, ◌*◌, ◌<◌, ◌≤◌, Bool, true, cond, not, ◌&&◌, List, [], ◌∷◌, length, Ok, Err, Result, nat_le, nat_lt, slice_index_or}
 use Rattle.model.specs.declared.refusals.Refusal.{Refusal}
 use Rattle.model.specs.declared.refusals.Refusal.TheVariants.{NodeCount, BadNode, ShortWork}
+use Rattle.model.specs.Causes.{Causes}
 use Rattle.model.specs.Meaning.{Meaning}
 use Rattle.model.specs.Rows.{words, least}
 use Rattle.theory.specs.declared.node.Node.{Node}
 use Rattle.theory.specs.declared.node.Shape.{Shape}
 use Rattle.theory.specs.declared.node.Shape.TheVariants as node
 use Rattle.theory.specs.Formula.{shape}
-
--- causes of refusal in their order, each with whether it applies
-abbrev pub Causes : Type 0
-Causes = List (Bool × Refusal)
-
--- the first cause that applies, or else the answer
-abbrev pub first : {A : Type 0} → Causes → A → Result A Refusal
-first [] x = Ok x
-first (c ∷ cs) x = cond c.0 (Err c.1) (first cs x)
-
--- no cause applies
-abbrev pub clear : Causes → Bool
-clear [] = true
-clear (c ∷ cs) = not c.0 && clear cs
 
 -- some nodes are used, no more than there are nor than 4,096, and the root is one of them
 abbrev pub usable : ℕ → ℕ → ℕ → Bool

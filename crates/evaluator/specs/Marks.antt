@@ -1,6 +1,7 @@
 -- What a mark answers, and what it writes.
 use Rattle.std.specs.Prelude.{◌≡◌, ℕ, ◌+◌, ◌*◌, true, cond, List, ◌++◌, length, drop, Decides, Result}
 use Rattle.model.specs.declared.refusals.Refusal.{Refusal}
+use Rattle.model.specs.Causes.{first, clear}
 use Rattle.model.specs.Meaning.{Meaning}
 use Rattle.model.specs.Rows.{words, count}
 use Rattle.model.specs.Verdict.{survivors_of}
@@ -8,7 +9,7 @@ use Rattle.theory.specs.declared.node.Node.{Node}
 use Rattle.theory.specs.Formula.{formula}
 use Rattle.theory.specs.Truth.{Holds, holds}
 use Rattle.evaluator.specs.declared.marks.Marked.{Marked}
-use Rattle.evaluator.specs.Checks.{faults, first, clear}
+use Rattle.evaluator.specs.Checks.{faults}
 use Rattle.evaluator.specs.Rows.{row_bit, rows_of}
 
 -- at how many surviving worlds the formula of node `root` is true, and how many survive

@@ -1,11 +1,12 @@
 // Whether a list of nodes can be evaluated.
-ghost use Rattle.std.specs.Prelude.{◌≡◌, ◌+◌, ◌≤◌, length, Ok};
-ghost use Rattle.evaluator.specs.Checks.{usable, sound, first_bad, faults, first, Fillable};
+ghost use Rattle.std.specs.Prelude.{◌≡◌, ◌+◌, ◌<◌, ◌≤◌, length, unwrap_or, IfSome, Ok};
+ghost use Rattle.model.specs.Causes.{first};
+ghost use Rattle.evaluator.specs.Checks.{usable, names_there, sound, first_bad, faults, Fillable};
 
 use model::questions::Model;
 use model::refusals::Refusal;
 use model::rows::words_for;
-use theory::node::Node;
+use theory::node::{Node, Shape};
 
 // How many nodes can be used.
 const MOST_NODES: usize = 4096;
@@ -17,35 +18,40 @@ fn is_usable(len: usize, used: usize, root: usize) -> bool
     (0 < used) & (used <= len) & (used <= MOST_NODES) & (root < used)
 }
 
-// Whether the node at that place names only what is there.
-fn is_sound<M: Model>(model: &M, place: usize, node: Node) -> bool
-    ensures { result ≡ sound (M.meaning model.now) place node }
+// Whether what a node at that place says names only what is there.
+fn names_what_is_there<M: Model>(model: &M, place: usize, shape: Shape) -> bool
+    ensures { result ≡ names_there (M.meaning model.now) place shape }
 {
-    match node.kind {
-        0 => true,
-        1 => node.a < model.facts(),
-        2 => node.a < model.quantities(),
-        3 => (node.a as usize) < place,
-        4 => ((node.a as usize) < place) & ((node.b as usize) < place),
-        5 => (node.a < model.agents()) & ((node.b as usize) < place),
-        6 => (node.a < model.agents())
-            & (node.b < model.quantities())
-            & ((node.c as usize) < place),
-        _ => false,
+    match shape {
+        Shape::Top => true,
+        Shape::Fact(fact) => fact < model.facts(),
+        Shape::Equals(quantity, _) => quantity < model.quantities(),
+        Shape::Not(node) => (node as usize) < place,
+        Shape::Both(left, right) => ((left as usize) < place) & ((right as usize) < place),
+        Shape::Knows(agent, node) => (agent < model.agents()) & ((node as usize) < place),
+        Shape::Value(agent, quantity, node) => {
+            (agent < model.agents()) & (quantity < model.quantities()) & ((node as usize) < place)
+        }
     }
 }
 
-// The lowest used node that is not sound, or their number.
-fn first_unsound<M: Model>(model: &M, nodes: &[Node], used: usize) -> usize
-    requires { used ≤ length nodes.now }
-    ensures { result ≡ first_bad (M.meaning model.now) nodes.now used }
+// Whether the node at that place has a kind and names only what is there.
+fn is_sound<M: Model>(model: &M, place: usize, node: Node) -> bool
+    ensures { result ≡ sound (M.meaning model.now) place node }
 {
-    for place in 0..used {
-        if !is_sound(model, place, nodes[place]) {
-            return place;
-        }
+    match Shape::try_from(node) {
+        Ok(shape) => names_what_is_there(model, place, shape),
+        Err(_) => false,
     }
-    used
+}
+
+// The lowest used node that is not sound, if there is one.
+fn first_unsound<M: Model>(model: &M, nodes: &[Node], used: usize) -> Option<usize>
+    requires { used ≤ length nodes.now }
+    ensures lowest { unwrap_or result used ≡ first_bad (M.meaning model.now) nodes.now used }
+    ensures below { IfSome result (λ i. i < used) }
+{
+    (0..used).find(|place| !is_sound(model, *place, nodes[*place]))
 }
 
 // The first cause of refusal, if there is one.
@@ -61,8 +67,7 @@ fn first_cause<M: Model>(
     if !is_usable(nodes.len(), used, root) {
         return Err(Refusal::NodeCount);
     }
-    let bad = first_unsound(model, nodes, used);
-    if bad < used {
+    if let Some(bad) = first_unsound(model, nodes, used) {
         return Err(Refusal::BadNode(bad as u16));
     }
     if room < (root + 1) * words_for(model.width()) {

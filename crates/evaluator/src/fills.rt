@@ -7,24 +7,17 @@ ghost use Rattle.evaluator.specs.Checks.{Fillable};
 ghost use Rattle.evaluator.specs.Rows.{row_bit, with_row, node_row, rows_of, Ready};
 ghost use Rattle.evaluator.specs.Marks.{MarksTheTruth};
 
-use crate::rows::{add_to_row, clear_row};
+use crate::rows::{Rows, add_to_row, clear_row};
 use crate::truths::is_true;
 use model::questions::Model;
 use theory::node::Node;
 
 // Whether a node is true at a world, from the rows before its own.
-fn holds_at<M: Model>(
-    model: &M,
-    nodes: &[Node],
-    place: usize,
-    work: &[u64],
-    words: usize,
-    world: u16,
-) -> bool
-    requires { Ready (M.meaning model.now) nodes.now place words work.now }
+fn holds_at<M: Model>(model: &M, nodes: &[Node], place: usize, rows: Rows<'_>, world: u16) -> bool
+    requires { Ready (M.meaning model.now) nodes.now place rows.words rows.work.now }
     ensures { result ≡ holds (M.meaning model.now) (formula nodes.now place) world }
 {
-    model.survives(world) && is_true(model, nodes[place], work, words, world)
+    model.survives(world) && is_true(model, nodes[place], rows, world)
 }
 
 // Writes the row of a node.
@@ -34,7 +27,7 @@ fn fill_row<M: Model>(model: &M, nodes: &[Node], place: usize, work: &mut [u64],
 {
     clear_row(work, words, place);
     for world in 0..model.width() {
-        if holds_at(model, nodes, place, work, words, world) {
+        if holds_at(model, nodes, place, Rows { work, words }, world) {
             add_to_row(work, words, place, world);
         }
     }

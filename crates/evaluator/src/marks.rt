@@ -4,7 +4,7 @@ ghost use Rattle.evaluator.specs.Marks.{answer, area, MarksTheTruth};
 
 use crate::checks::check;
 use crate::fills::fill_rows;
-use crate::rows::count_row;
+use crate::rows::Rows;
 use model::questions::Model;
 use model::refusals::Refusal;
 use model::rows::words_for;
@@ -36,7 +36,7 @@ pub fn mark<M: Model>(
     let words = words_for(width);
     fill_rows(model, nodes, root, work, words);
     Ok(Marked {
-        holding: count_row(work, words, root, width),
+        holding: Rows { work, words }.count(root, width),
         survivors: survivors(model),
     })
 }

@@ -3,23 +3,41 @@ ghost use Rattle.std.specs.Prelude.{◌≡◌, ◌+◌, ◌*◌, ◌≤◌, leng
 ghost use Rattle.model.specs.Rows.{with_world, count};
 ghost use Rattle.evaluator.specs.Rows.{row_at, row_bit, with_row};
 
-use model::rows::{add_world, count_worlds};
+use model::rows::{add_world, count_worlds, has_world};
 
-// The row of a node, where each has so many words.
-pub fn row_at(work: &[u64], words: usize, node: usize) -> &[u64]
-    requires { node * words + words ≤ length work.now }
-    ensures { result.now ≡ row_at work.now words node }
-{
-    let start = node * words;
-    &work[start..start + words]
+// The rows of a work area, each of so many words.
+#[derive(Clone, Copy)]
+pub struct Rows<'a> {
+    pub work: &'a [u64],
+    pub words: usize,
 }
 
-// How many worlds below the width the row of a node has.
-pub fn count_row(work: &[u64], words: usize, node: usize, width: u16) -> u16
-    requires { node * words + words ≤ length work.now }
-    ensures { result ≡ count (row_bit work.now words node) width }
-{
-    count_worlds(row_at(work, words, node), width)
+impl<'a> Rows<'a> {
+    // The row of a node.
+    pub fn row(self, node: usize) -> &'a [u64]
+        requires { node * self.words + self.words ≤ length self.work.now }
+        ensures { result.now ≡ row_at self.entry.work.now self.entry.words node }
+    {
+        let work = self.work;
+        let start = node * self.words;
+        &work[start..start + self.words]
+    }
+
+    // Whether the row of a node has a world.
+    pub fn has(self, node: u16, world: u16) -> bool
+        requires { node * self.words + self.words ≤ length self.work.now }
+        ensures { result ≡ row_bit self.entry.work.now self.entry.words node world }
+    {
+        has_world(self.row(node as usize), world)
+    }
+
+    // How many worlds below the width the row of a node has.
+    pub fn count(self, node: usize, width: u16) -> u16
+        requires { node * self.words + self.words ≤ length self.work.now }
+        ensures { result ≡ count (row_bit self.entry.work.now self.entry.words node) width }
+    {
+        count_worlds(self.row(node), width)
+    }
 }
 
 // Takes all worlds out of the row of a node.

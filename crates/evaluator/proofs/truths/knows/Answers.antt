@@ -1,18 +1,15 @@
-use Rattle.std.proofs.Common.{Bool, not, ◌&&◌, sym, ◌∙◌, ap₂, arith}
+use Rattle.std.proofs.Common.{rules, ◌∙◌, arith}
+use borrow.Author.Tests.{tests}
+use Rattle.std.proofs.lemmas.Iterator.{YieldsList-from_range}
+use Rattle.std.proofs.lemmas.Iterator.Search.{all_from_yields_List}
 use Rattle.model.specs.Rows.{bit, implies}
 use Rattle.theory.specs.Truth.{reaches}
-use Rattle.evaluator.proofs.Every.{every_true, every_false, not_implied}
+use Rattle.evaluator.proofs.Every.{all_below}
 use Rattle.evaluator.proofs.truths.knows.Goals as goal
-
-pub returns-then-is_reached-has_world : goal.returns-then-is_reached-has_world
-returns-then-is_reached-has_world g c =
-    let m = g.M.Model.meaning c.args.model.now in
-    let v = c.loop-other.other in
-    sym (every_false m.width (λ v. implies (reaches m c.args.agent c.args.world v) (bit c.args.row.now v)) v (omega arith)
-    (not_implied (reaches m c.args.agent c.args.world v) (bit c.args.row.now v)
-    (sym (ap₂ (λ (x y : Bool). x && not y) c.is_reached.ensures c.has_world.ensures.is_the_bit) ∙ c.if-is_reached-has_world.true)))
 
 pub returns : goal.returns
 returns g c =
     let m = g.M.Model.meaning c.args.model.now in
-    sym (every_true m.width (λ v. implies (reaches m c.args.agent c.args.world v) (bit c.args.row.now v)) (λ v l. c.loop-other.invariant v (omega arith)))
+    all_from_yields_List (λ v. implies (reaches m c.args.agent c.args.world v) (bit c.args.row.now v)) _ _ c.all.result c.all.ensures.ran
+    (YieldsList-from_range 0 c.width.result m.width (cc) (omega arith)) (λ x b q k. search (rules, tests))
+    ∙ all_below (λ v. implies (reaches m c.args.agent c.args.world v) (bit c.args.row.now v)) m.width
