@@ -4,7 +4,7 @@ use Rattle.std.specs.List.{list_all, range_with_len}
 use Rattle.std.proofs.lemmas.Bool.{cases_lt, cases_Bool, and_left, and_right, and_from, both_ways, eq-eqb, ne_eqb}
 use Rattle.model.specs.Meaning.{Meaning}
 use Rattle.model.specs.Rows.{implies, every, least}
-use Rattle.model.proofs.Counts.{Least, least_is}
+use Rattle.model.proofs.Counts.{least_is}
 use Rattle.model.proofs.Ranges.{IsFirst}
 use Rattle.theory.specs.Truth.{constant}
 

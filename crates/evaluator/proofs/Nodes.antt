@@ -1,11 +1,11 @@
 -- Sound nodes.
-use Rattle.std.proofs.Common.{◌≡◌, ℕ, ◌*◌, ◌<◌, ◌≤◌, Bool, true, false, not, ◌&&◌, ltb, leb, get_or, sym, refl, ap, ap₂}
+use Rattle.std.proofs.Common.{◌≡◌, ℕ, ◌*◌, ◌<◌, ◌≤◌, Bool, true, false, not, ◌&&◌, ltb, leb, refl, ap, ap₂}
 use Rattle.std.proofs.lemmas.Bool.{and_parts, ltb-true}
 use Rattle.model.specs.Meaning.{Meaning}
 use Rattle.theory.specs.declared.node.Node.{Node}
 use Rattle.theory.specs.declared.node.Shape.{Shape}
 use Rattle.theory.specs.declared.node.Shape.TheVariants as node
-use Rattle.theory.specs.Formula.{Formula, shape, shapes, build, Earlier}
+use Rattle.theory.specs.Formula.{Formula, shape, build, Earlier}
 use Rattle.model.specs.Rows.{implies, every}
 use Rattle.theory.specs.Truth.{reaches, everywhere, constant, truth, holds}
 use Rattle.evaluator.specs.Checks.{sound, names_there}
@@ -36,9 +36,6 @@ rows_there i r room (node.Knows p j) l h = row_fits j i r room h l
 rows_there i r room (node.Value p q j) l h = row_fits j i r room h l
 
 module _ (m : Meaning) where
-  pub says_kind : (n : Node) (k : ℕ) (at : ℕ → ℕ → Bool) (w : ℕ) → n.kind ≡ k → says m at (get_or (shapes n) k node.Top) w ≡ says m at (shape n) w
-  says_kind n k at w e = ap (λ (x : ℕ). says m at (get_or (shapes n) x node.Top) w) (sym e)
-
   -- what a shape says goes by the named nodes alone
   pub says_same : (f g : ℕ → ℕ → Bool) (i : ℕ) (s : Shape) (w : ℕ) → Earlier i s → ((j : ℕ) → j < i → f j ≡ g j) → says m f s w ≡ says m g s w
   says_same f g i node.Top w h e = refl

@@ -1,6 +1,5 @@
 -- Which lists of nodes are evaluated, and the causes of refusal in their order.
-use Rattle.std.specs.Prelude.{◌≡◌, ℕ, ◌+◌, ◌*◌, ◌<◌, ◌≤◌, Bool, true, cond, not, ◌&&◌, List, [], ◌∷◌, length, Ok, Err, Result, nat_le, nat_lt, slice_index_or}
-use Rattle.model.specs.declared.refusals.Refusal.{Refusal}
+use Rattle.std.specs.Prelude.{◌≡◌, ℕ, ◌+◌, ◌*◌, ◌<◌, ◌≤◌, Bool, true, not, ◌&&◌, List, [], ◌∷◌, length, nat_le, nat_lt, slice_index_or}
 use Rattle.model.specs.declared.refusals.Refusal.TheVariants.{NodeCount, BadNode, ShortWork}
 use Rattle.model.specs.Causes.{Causes}
 use Rattle.model.specs.Meaning.{Meaning}

@@ -44,15 +44,19 @@ says m at (node.Both i j) w = at i w && at j w
 says m at (node.Knows p i) w = everywhere m p w (at i)
 says m at (node.Value p q i) w = constant m q (λ v. reaches m p w v && at i v)
 
+-- a work area of so many words, with r to a row, has a row for node i
+abbrev pub HasRow : ℕ → ℕ → ℕ → Type 0
+HasRow i r room = i * r + r ≤ room
+
 -- the rows that a shape names are in a work area of so many words
 abbrev pub RowsThere : Shape → ℕ → ℕ → Type 0
 RowsThere node.Top r room = Unit {0}
 RowsThere (node.Fact f) r room = Unit {0}
 RowsThere (node.Equals q x) r room = Unit {0}
-RowsThere (node.Not i) r room = i * r + r ≤ room
-RowsThere (node.Both i j) r room = (i * r + r ≤ room) × (j * r + r ≤ room)
-RowsThere (node.Knows p i) r room = i * r + r ≤ room
-RowsThere (node.Value p q i) r room = i * r + r ≤ room
+RowsThere (node.Not i) r room = HasRow i r room
+RowsThere (node.Both i j) r room = HasRow i r room × HasRow j r room
+RowsThere (node.Knows p i) r room = HasRow i r room
+RowsThere (node.Value p q i) r room = HasRow i r room
 
 -- node i can be evaluated in a work area with r words to a row, where the rows of the nodes before it stand
 pub record Ready (m : Meaning) (ns : List Node) (i r : ℕ) (work : List ℕ) : Type 0 where

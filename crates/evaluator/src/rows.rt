@@ -1,7 +1,7 @@
 // The rows of a work area, one for each node, end to end.
-ghost use Rattle.std.specs.Prelude.{◌≡◌, ◌+◌, ◌*◌, ◌≤◌, length, replicate};
+ghost use Rattle.std.specs.Prelude.{◌≡◌, length, replicate};
 ghost use Rattle.model.specs.Rows.{with_world, count};
-ghost use Rattle.evaluator.specs.Rows.{row_at, row_bit, with_row};
+ghost use Rattle.evaluator.specs.Rows.{HasRow, row_at, row_bit, with_row};
 
 use model::rows::{add_world, count_worlds, has_world};
 
@@ -15,7 +15,7 @@ pub struct Rows<'a> {
 impl<'a> Rows<'a> {
     // The row of a node.
     pub fn row(self, node: usize) -> &'a [u64]
-        requires { node * self.words + self.words ≤ length self.work.now }
+        requires { HasRow node self.words (length self.work.now) }
         ensures { result.now ≡ row_at self.entry.work.now self.entry.words node }
     {
         let work = self.work;
@@ -25,7 +25,7 @@ impl<'a> Rows<'a> {
 
     // Whether the row of a node has a world.
     pub fn has(self, node: u16, world: u16) -> bool
-        requires { node * self.words + self.words ≤ length self.work.now }
+        requires { HasRow node self.words (length self.work.now) }
         ensures { result ≡ row_bit self.entry.work.now self.entry.words node world }
     {
         has_world(self.row(node as usize), world)
@@ -33,7 +33,7 @@ impl<'a> Rows<'a> {
 
     // How many worlds below the width the row of a node has.
     pub fn count(self, node: usize, width: u16) -> u16
-        requires { node * self.words + self.words ≤ length self.work.now }
+        requires { HasRow node self.words (length self.work.now) }
         ensures { result ≡ count (row_bit self.entry.work.now self.entry.words node) width }
     {
         count_worlds(self.row(node), width)
@@ -42,7 +42,7 @@ impl<'a> Rows<'a> {
 
 // Takes all worlds out of the row of a node.
 pub fn clear_row(work: &mut [u64], words: usize, node: usize)
-    requires { node * words + words ≤ length work.old }
+    requires { HasRow node words (length work.old) }
     ensures { work.new ≡ with_row work.old words node (replicate words 0) }
 {
     let start = node * words;
@@ -51,7 +51,7 @@ pub fn clear_row(work: &mut [u64], words: usize, node: usize)
 
 // Puts a world into the row of a node.
 pub fn add_to_row(work: &mut [u64], words: usize, node: usize, world: u16)
-    requires { node * words + words ≤ length work.old }
+    requires { HasRow node words (length work.old) }
     ensures { work.new ≡ with_row work.old words node (with_world (row_at work.old words node) world) }
 {
     let start = node * words;
