@@ -8,7 +8,7 @@ use crate::tokens::{Class, Lexeme, TokenFault, after, first_token, run};
 use std::marker::Model;
 
 // What is left of a line, and the column where it begins. A clause sees the pieces that are left.
-#[derive(Clone, Drop)]
+#[derive(Drop)]
 pub struct Cursor<'a> {
     rest: &'a [u8],
     column: usize,
@@ -34,6 +34,16 @@ impl<'a> Cursor<'a> {
         Cursor {
             rest: line,
             column: 1,
+        }
+    }
+
+    // A second cursor at the same place. A derived `clone` could fail, and `Copy` is not to be had under a lifetime.
+    pub fn fork(&self) -> Cursor<'a>
+        ensures stands_there_too { result ≡ self.now }
+    {
+        Cursor {
+            rest: self.rest,
+            column: self.column,
         }
     }
 

@@ -56,6 +56,7 @@ impl NodeList {
     }
 
     // Appends a node, if it finds a place.
+    #[tactic(auto, unfolding(crate::specs::Stores::put))]
     pub(crate) fn put(&mut self, node: Node)
         ensures written { store_of self.new ≡ put (store_of self.old) node }
         ensures keeps { Keeps (store_of self.old) (store_of self.new) }
