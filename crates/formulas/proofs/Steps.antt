@@ -1,5 +1,5 @@
 -- Steps of the readers of formulas.
-use Rattle.std.proofs.Common.{◌≡◌, ℕ, zero, suc, ◌-◌, ◌<◌, ◌≤◌, ◌⊎◌, List, ◌∷◌, length, Some, None, Option, Result, sym, refl, ap, ◌∙◌, subst, ⊎_elim, arith, Bor, MatchResult}
+use Rattle.std.proofs.Common.{◌≡◌, ℕ, zero, suc, ◌-◌, ◌<◌, ◌≤◌, ◌⊎◌, List, ◌∷◌, length, Some, None, Option, Result, sym, refl, ap, ◌∙◌, ⊎_elim, arith, Bor, MatchResult}
 use Rattle.lexer.specs.declared.tokens.Sign.{Sign}
 use Rattle.lexer.specs.declared.tokens.Sign.TheVariants as mark
 use Rattle.lexer.specs.declared.tokens.Lexeme.{Lexeme}
@@ -18,7 +18,7 @@ use Rattle.formulas.specs.Readers.{value_in, chain, joined, sentence_of, term, t
 use Rattle.formulas.specs.Sentences.{Sentence, both, either}
 use Rattle.formulas.specs.Stores.{Store, write, put, last, node, or_nodes}
 use Rattle.formulas.proofs.Keep.{keeps_refl, keeps_trans}
-use Rattle.formulas.proofs.Chains.{Chained, Going, chain_stop, chain_fault, chain_more, chain_breaks, chain_ends, sign_some, fault_some}
+use Rattle.formulas.proofs.Chains.{Chained, Going, chain_fault, chain_more, chain_breaks, chain_ends, sign_some, fault_some}
 
 pub inner_none : (n : ℕ) → n ≡ 0 → inner n ≡ None
 inner_none zero e = refl

@@ -1,4 +1,5 @@
 // The readers of formulas, which call one another. Each opens no more levels than it is given, and appends the nodes of what it reads.
+ghost use Rattle.std.specs.Prelude.{◌≡◌, ◌+◌, MatchResult};
 ghost use Rattle.lexer.specs.declared.tokens.Sign.TheVariants.{Not, Open, Knows, Value};
 ghost use Rattle.lexer.specs.Tokens.{sign};
 ghost use Rattle.formulas.specs.Readers.{keyword, disjunction, conjunction, term, term_in, word_in, inner};
@@ -7,11 +8,18 @@ ghost use Rattle.formulas.specs.Stores.{store_of};
 
 use crate::faults::FormulaFault;
 use crate::nodes::NodeList;
+use crate::nodes::writing::node;
 use crate::parts::{expect_sign, number, perhaps_sign};
 use crate::words::{Keyword, keyword_of};
 use lexer::cursor::Cursor;
 use lexer::tokens::{Sign, Token};
-use theory::node::Node;
+
+// One level down, if there is one; else the token at the column opens a level too many.
+fn deeper(levels: u8, column: usize) -> Result<u8, FormulaFault>
+    ensures { MatchResult result (λ n. levels ≡ n + 1) (λ e. (levels ≡ 0) × (e ≡ FormulaFault.Level column)) }
+{
+    levels.checked_sub(1).ok_or(FormulaFault::Level(column))
+}
 
 // Conjunctions joined by `|`.
 #[cycle(sentence)]
@@ -47,12 +55,7 @@ fn conjunction(
         let a = nodes.last();
         term(cursor, levels, nodes)?;
         let b = nodes.last();
-        nodes.put(Node {
-            kind: 4,
-            a,
-            b,
-            c: 0,
-        });
+        nodes.put(node(4, a, b, 0));
     }
     Ok(())
 }
@@ -93,17 +96,10 @@ fn negation(
     ensures reads { Reads (term_in (inner levels) column (sign Not)) cursor.old cursor.new result (store_of nodes.old) (store_of nodes.new) }
     ensures keeps { Keeps (store_of nodes.old) (store_of nodes.new) }
 {
-    if levels == 0 {
-        return Err(FormulaFault::Level(column));
-    }
-    term(cursor, levels - 1, nodes)?;
+    let inner = deeper(levels, column)?;
+    term(cursor, inner, nodes)?;
     let a = nodes.last();
-    nodes.put(Node {
-        kind: 3,
-        a,
-        b: 0,
-        c: 0,
-    });
+    nodes.put(node(3, a, 0, 0));
     Ok(())
 }
 
@@ -118,18 +114,11 @@ fn knowledge(
     ensures reads { Reads (term_in (inner levels) column (sign Knows)) cursor.old cursor.new result (store_of nodes.old) (store_of nodes.new) }
     ensures keeps { Keeps (store_of nodes.old) (store_of nodes.new) }
 {
-    if levels == 0 {
-        return Err(FormulaFault::Level(column));
-    }
+    let inner = deeper(levels, column)?;
     let agent = number(cursor)?;
-    term(cursor, levels - 1, nodes)?;
+    term(cursor, inner, nodes)?;
     let b = nodes.last();
-    nodes.put(Node {
-        kind: 5,
-        a: agent,
-        b,
-        c: 0,
-    });
+    nodes.put(node(5, agent, b, 0));
     Ok(())
 }
 
@@ -144,10 +133,8 @@ fn group(
     ensures reads { Reads (term_in (inner levels) column (sign Open)) cursor.old cursor.new result (store_of nodes.old) (store_of nodes.new) }
     ensures keeps { Keeps (store_of nodes.old) (store_of nodes.new) }
 {
-    if levels == 0 {
-        return Err(FormulaFault::Level(column));
-    }
-    disjunction(cursor, levels - 1, nodes)?;
+    let inner = deeper(levels, column)?;
+    disjunction(cursor, inner, nodes)?;
     expect_sign(cursor, Sign::Close)
 }
 
@@ -167,20 +154,13 @@ fn value(
     let quantity = number(cursor)?;
     match perhaps_sign(cursor, Sign::Slash)? {
         None => {
-            nodes.put(Node {
-                kind: 0,
-                a: 0,
-                b: 0,
-                c: 0,
-            });
+            nodes.put(node(0, 0, 0, 0));
             nodes.put_value(agent, quantity);
             Ok(())
         }
         Some(slash) => {
-            if levels == 0 {
-                return Err(FormulaFault::Level(slash));
-            }
-            term(cursor, levels - 1, nodes)?;
+            let inner = deeper(levels, slash)?;
+            term(cursor, inner, nodes)?;
             nodes.put_value(agent, quantity);
             Ok(())
         }
@@ -199,34 +179,19 @@ fn word(
 {
     match keyword_of(text) {
         Some(Keyword::True) => {
-            nodes.put(Node {
-                kind: 0,
-                a: 0,
-                b: 0,
-                c: 0,
-            });
+            nodes.put(node(0, 0, 0, 0));
             Ok(())
         }
         Some(Keyword::Fact) => {
             let fact = number(cursor)?;
-            nodes.put(Node {
-                kind: 1,
-                a: fact,
-                b: 0,
-                c: 0,
-            });
+            nodes.put(node(1, fact, 0, 0));
             Ok(())
         }
         Some(Keyword::Quantity) => {
             let quantity = number(cursor)?;
             expect_sign(cursor, Sign::Equals)?;
             let amount = number(cursor)?;
-            nodes.put(Node {
-                kind: 2,
-                a: quantity,
-                b: amount,
-                c: 0,
-            });
+            nodes.put(node(2, quantity, amount, 0));
             Ok(())
         }
         None => Err(FormulaFault::Place(column)),

@@ -5,7 +5,7 @@ use Rattle.lexer.specs.declared.tokens.Token.TheVariants.{Sign, Word, Number, En
 use Rattle.lexer.specs.Tokens.{sign}
 use Rattle.formulas.specs.Readers.{keyword, term, conjunction, term_in, word_in, inner}
 use Rattle.formulas.specs.Sentences.{both, either}
-use Rattle.formulas.specs.Stores.{store_of}
+use Rattle.formulas.specs.Stores.{store_of, put}
 use Rattle.formulas.proofs.Chains.{found_some, found_none}
 use Rattle.formulas.proofs.Keep.{keeps_refl}
 use Rattle.formulas.proofs.Steps.{term_first, term_bad, going_more, going_end, going_fault, going_breaks, both_written, either_written, handed, fewer_sign, fewer_word, misplaced}
@@ -27,7 +27,7 @@ conjunction-loop-column-preserved t c =
     let some = found_some c.in-Some._column c.in_ok-_column.ensures c.in-Some.is in
     let w = c.in_ok-term-2.ensures in
     going_more And both (term c.args.levels) c.loop-column.invariant c.in-Some._column c.perhaps_sign.new.cursor c.term-in-Some.new.cursor (store_of c.term-in-Some.new.nodes) (store_of c.put.new.self) some.0 some.1 w.reads
-    (λ f b m. both_written f _ b (store_of c.loop-column.nodes) (store_of c.term-in-Some.new.nodes) (store_of c.put.new.self) c.last-a.result c.last-b.result c.last-a.ensures.is_the_last_node c.last-b.ensures.is_the_last_node w.reads.written c.put.ensures.written m)
+    (λ f b m. both_written f _ b (store_of c.loop-column.nodes) (store_of c.term-in-Some.new.nodes) (store_of c.put.new.self) c.last-a.result c.last-b.result c.last-a.ensures.is_the_last_node c.last-b.ensures.is_the_last_node w.reads.written (c.put.ensures.written ∙ ap (put (store_of c.term-in-Some.new.nodes)) c.node.ensures) m)
     w.keeps c.put.ensures.keeps
 
 pub conjunction-returns-clause-reads : goal.conjunction-returns-clause-reads
