@@ -123,17 +123,11 @@ impl<'r, 'a> Parser<'r, 'a> {
         expect_sign(self.cursor, Sign::Dot)?;
         let quantity = number(self.cursor)?;
         match perhaps_sign(self.cursor, Sign::Slash)? {
-            None => {
-                self.nodes.put(node(0, 0, 0, 0));
-                self.nodes.put_value(agent, quantity);
-                Ok(())
-            }
-            Some(slash) => {
-                self.term(deeper(levels, slash)?)?;
-                self.nodes.put_value(agent, quantity);
-                Ok(())
-            }
+            None => self.nodes.put(node(0, 0, 0, 0)),
+            Some(slash) => self.term(deeper(levels, slash)?)?,
         }
+        self.nodes.put_value(agent, quantity);
+        Ok(())
     }
 
     // What follows a word, which stands at the column.
