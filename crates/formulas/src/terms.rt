@@ -58,6 +58,7 @@ impl<'r, 'a> Parser<'r, 'a> {
     }
 
     #[cycle(sentence)]
+    #[tactic(auto, using(crate::proofs::Steps::term_is))]
     fn term(&mut self, levels: u8) -> Result<(), FormulaFault>
         ensures { Parsed (term levels) self.old self.new result }
     {

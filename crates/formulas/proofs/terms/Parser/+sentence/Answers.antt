@@ -121,86 +121,12 @@ term-returns-in_err-x t c =
     let h = c.in_err-x.ensures.is_the_next_piece in
     record { reads = rw (p.1, p.2) (term_bad c.args.levels _ _ c.args.self.now.cursor.now h.0 h.1); keeps = keeps_refl (store_of c.args.self.now.nodes.now); same_cursor = refl; same_nodes = refl }
 
-pub term-returns-in-Not : goal.term-returns-in-Not
-term-returns-in-Not t c =
-    let x = c.in_ok-x.x in
-    let here = c.in_ok-x.ensures.is_the_next_piece in
-    let is = c.in-Sign.is ∙ ap Sign c.in-Not.is in
-    let rest = c.next_token.new.self in
-    let e = c.negation.ensures in
-    record {
-      reads = handed (term c.args.levels c.args.self.now.cursor.now) (term_in (inner c.args.levels) x.column (sign Not) rest) c.args.self.now.cursor.now rest c.negation.new.self.cursor.now c.negation.result (store_of c.args.self.now.nodes.now) (store_of c.negation.new.self.nodes.now)
-          (term_first c.args.levels c.args.self.now.cursor.now x rest (Sign Not) here is) (fewer_sign c.args.self.now.cursor.now x rest Not here is) e.reads;
-      keeps = e.keeps;
-      same_cursor = e.same_cursor;
-      same_nodes = e.same_nodes;
-    }
-
-pub term-returns-in-Knows : goal.term-returns-in-Knows
-term-returns-in-Knows t c =
-    let x = c.in_ok-x.x in
-    let here = c.in_ok-x.ensures.is_the_next_piece in
-    let is = c.in-Sign.is ∙ ap Sign c.in-Knows.is in
-    let rest = c.next_token.new.self in
-    let e = c.knowledge.ensures in
-    record {
-      reads = handed (term c.args.levels c.args.self.now.cursor.now) (term_in (inner c.args.levels) x.column (sign Knows) rest) c.args.self.now.cursor.now rest c.knowledge.new.self.cursor.now c.knowledge.result (store_of c.args.self.now.nodes.now) (store_of c.knowledge.new.self.nodes.now)
-          (term_first c.args.levels c.args.self.now.cursor.now x rest (Sign Knows) here is) (fewer_sign c.args.self.now.cursor.now x rest Knows here is) e.reads;
-      keeps = e.keeps;
-      same_cursor = e.same_cursor;
-      same_nodes = e.same_nodes;
-    }
-
-pub term-returns-in-Value : goal.term-returns-in-Value
-term-returns-in-Value t c =
-    let x = c.in_ok-x.x in
-    let here = c.in_ok-x.ensures.is_the_next_piece in
-    let is = c.in-Sign.is ∙ ap Sign c.in-Value.is in
-    let rest = c.next_token.new.self in
-    let e = c.value.ensures in
-    record {
-      reads = handed (term c.args.levels c.args.self.now.cursor.now) (term_in (inner c.args.levels) x.column (sign Value) rest) c.args.self.now.cursor.now rest c.value.new.self.cursor.now c.value.result (store_of c.args.self.now.nodes.now) (store_of c.value.new.self.nodes.now)
-          (term_first c.args.levels c.args.self.now.cursor.now x rest (Sign Value) here is) (fewer_sign c.args.self.now.cursor.now x rest Value here is) e.reads;
-      keeps = e.keeps;
-      same_cursor = e.same_cursor;
-      same_nodes = e.same_nodes;
-    }
-
-pub term-returns-in-Open : goal.term-returns-in-Open
-term-returns-in-Open t c =
-    let x = c.in_ok-x.x in
-    let here = c.in_ok-x.ensures.is_the_next_piece in
-    let is = c.in-Sign.is ∙ ap Sign c.in-Open.is in
-    let rest = c.next_token.new.self in
-    let e = c.group.ensures in
-    record {
-      reads = handed (term c.args.levels c.args.self.now.cursor.now) (term_in (inner c.args.levels) x.column (sign Open) rest) c.args.self.now.cursor.now rest c.group.new.self.cursor.now c.group.result (store_of c.args.self.now.nodes.now) (store_of c.group.new.self.nodes.now)
-          (term_first c.args.levels c.args.self.now.cursor.now x rest (Sign Open) here is) (fewer_sign c.args.self.now.cursor.now x rest Open here is) e.reads;
-      keeps = e.keeps;
-      same_cursor = e.same_cursor;
-      same_nodes = e.same_nodes;
-    }
-
 pub term-returns-in-And : goal.term-returns-in-And
 term-returns-in-And t c =
     let x = c.in_ok-x.x in
     let h = c.in-And.is in
     let rest = c.next_token.new.self in
     record { reads = term_first c.args.levels c.args.self.now.cursor.now x rest (Sign c.in-Sign.sign) c.in_ok-x.ensures.is_the_next_piece c.in-Sign.is ∙ misplaced (inner c.args.levels) x.column rest c.in-Sign.sign h; keeps = keeps_refl (store_of c.args.self.now.nodes.now); same_cursor = refl; same_nodes = refl }
-
-pub term-returns-in-Word : goal.term-returns-in-Word
-term-returns-in-Word t c =
-    let x = c.in_ok-x.x in
-    let here = c.in_ok-x.ensures.is_the_next_piece in
-    let rest = c.next_token.new.self in
-    let e = c.word.ensures in
-    record {
-      reads = handed (term c.args.levels c.args.self.now.cursor.now) (word_in x.column (keyword c.in-Word.w.now) rest) c.args.self.now.cursor.now rest c.word.new.self.cursor.now c.word.result (store_of c.args.self.now.nodes.now) (store_of c.word.new.self.nodes.now)
-          (term_first c.args.levels c.args.self.now.cursor.now x rest (Word c.in-Word.w) here c.in-Word.is) (fewer_word c.args.self.now.cursor.now x rest c.in-Word.w here c.in-Word.is) e.reads;
-      keeps = e.keeps;
-      same_cursor = e.same_cursor;
-      same_nodes = e.same_nodes;
-    }
 
 pub term-returns-in-Number : goal.term-returns-in-Number
 term-returns-in-Number t c =
