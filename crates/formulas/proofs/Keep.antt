@@ -1,8 +1,7 @@
 -- What is written goes behind the nodes that were there.
-use Rattle.std.proofs.Common.{◌≡◌, ℕ, ◌-◌, ◌≤◌, [], ◌∷◌, ◌++◌, length, take, sym, refl, ap, ◌∙◌, arith, length-take}
-use Rattle.std.proofs.lemmas.List.{take-take, take_all, take_at}
-use Rattle.theory.specs.declared.node.Node.{Node}
-use Rattle.formulas.specs.Stores.{Store, put, last, node, and_then, or_nodes}
+use Rattle.std.proofs.Common.{◌≤◌, length, take, sym, ap, ◌∙◌, arith, length-take}
+use Rattle.std.proofs.lemmas.List.{take-take, take_all}
+use Rattle.formulas.specs.Stores.{Store}
 use Rattle.formulas.specs.Steps.{Keeps}
 
 pub keeps_refl : (s : Store) → Keeps s s

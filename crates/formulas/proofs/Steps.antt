@@ -1,23 +1,18 @@
 -- Steps of the readers of formulas.
-use Rattle.std.proofs.Common.{◌≡◌, ℕ, zero, suc, ◌-◌, ◌<◌, ◌≤◌, ◌⊎◌, List, ◌∷◌, length, Some, None, Option, Result, sym, refl, ap, ◌∙◌, ⊎_elim, arith, Bor, MatchResult}
+use Rattle.std.proofs.Common.{◌≡◌, ℕ, zero, suc, ◌-◌, ◌<◌, ◌≤◌, ◌⊎◌, List, ◌∷◌, length, Some, None, Option, sym, refl, ap, ◌∙◌, ⊎_elim, arith}
 use Rattle.lexer.specs.declared.tokens.Sign.{Sign}
 use Rattle.lexer.specs.declared.tokens.Sign.TheVariants as mark
 use Rattle.lexer.specs.declared.tokens.Lexeme.{Lexeme}
 use Rattle.lexer.specs.declared.tokens.Token.{Token}
-use Rattle.lexer.specs.declared.tokens.Token.TheVariants as token
-use Rattle.std.proofs.lemmas.Result.{MatchResult-weaker}
-use Rattle.theory.specs.declared.node.Node.{Node}
-use Rattle.formulas.specs.declared.faults.FormulaFault.{FormulaFault}
 use Rattle.lexer.specs.Faults.{Fault}
 use Rattle.lexer.specs.Tokens.{sign, bad, Placed}
-use Rattle.formulas.specs.Faults.{of_formula}
 use Rattle.lexer.specs.Steps.{piece_of, unless_end, Next}
 use Rattle.formulas.specs.Steps.{Wrote, Keeps}
-use Rattle.formulas.specs.Reading.{a_number, the_sign, Outcome, fault, parsed, Reader, bind, at, perhaps}
-use Rattle.formulas.specs.Readers.{value_in, chain, joined, sentence_of, term, term_with, term_in, inner}
+use Rattle.formulas.specs.Reading.{Outcome, fault, parsed, Reader, bind, at, perhaps}
+use Rattle.formulas.specs.Readers.{chain, joined, sentence_of, term, term_with, term_in, inner}
 use Rattle.formulas.specs.Sentences.{Sentence, both, either}
 use Rattle.formulas.specs.Stores.{Store, write, put, last, node, or_nodes}
-use Rattle.formulas.proofs.Keep.{keeps_refl, keeps_trans}
+use Rattle.formulas.proofs.Keep.{keeps_trans}
 use Rattle.formulas.proofs.Chains.{Chained, Going, chain_fault, chain_more, chain_breaks, chain_ends, sign_some, fault_some}
 
 pub term_is : (n : ℕ) (ps : List Placed) → term n ps ≡ term_with (inner n) ps

@@ -7,15 +7,13 @@ ghost use Rattle.grammar.specs.Faults.{LinesEnd, FormulasBreak, LinesByPieces, L
 pub fn sentences_are_read()
     ensures reads_just_the_sentences { SentencesRead }
     ensures writes_what_they_mean { SentencesMean }
-{
-}
+{}
 
 // Just the lines of the grammar are accepted, each for what it says.
 pub fn lines_are_read()
     ensures reads_just_the_settings { SettingsRead }
     ensures reads_just_the_calls { CallsRead }
-{
-}
+{}
 
 // What stands before a fault can be completed, and together with the token there it cannot.
 pub fn faults_stand_where_it_breaks()
@@ -24,5 +22,4 @@ pub fn faults_stand_where_it_breaks()
     ensures reads_by_pieces { LinesByPieces }
     ensures breaks_lines { LinesBreak }
     ensures refuses_what_breaks { RefusalsBreak }
-{
-}
+{}

@@ -1,14 +1,13 @@
 use Rattle.std.proofs.Common.{refl, ap, ◌∙◌, ⊎_elim}
 use Rattle.std.proofs.lemmas.Result.{err_from_is_err_and}
-use Rattle.lexer.specs.declared.tokens.Sign.TheVariants.{And, Or, Not, Knows, Open, Value}
-use Rattle.lexer.specs.declared.tokens.Token.TheVariants.{Sign, Word, Number, End}
-use Rattle.lexer.specs.Tokens.{sign}
-use Rattle.formulas.specs.Readers.{keyword, term, conjunction, term_in, word_in, inner}
+use Rattle.lexer.specs.declared.tokens.Sign.TheVariants.{And, Or}
+use Rattle.lexer.specs.declared.tokens.Token.TheVariants.{Sign, Number, End}
+use Rattle.formulas.specs.Readers.{term, conjunction, inner}
 use Rattle.formulas.specs.Sentences.{both, either}
 use Rattle.formulas.specs.Stores.{store_of, put}
 use Rattle.formulas.proofs.Chains.{found_some, found_none}
 use Rattle.formulas.proofs.Keep.{keeps_refl, keeps_trans}
-use Rattle.formulas.proofs.Steps.{term_first, term_bad, going_more, going_end, going_fault, going_breaks, both_written, either_written, handed, fewer_sign, fewer_word, misplaced}
+use Rattle.formulas.proofs.Steps.{term_first, term_bad, going_more, going_end, going_fault, going_breaks, both_written, either_written, misplaced}
 use Rattle.formulas.proofs.terms.Parser.+sentence.Goals as goal
 
 pub conjunction-returns-in_err-_column : goal.conjunction-returns-in_err-_column
