@@ -1,20 +1,14 @@
 -- Looks kept in a layer, and a look handed down.
-use Rattle.std.proofs.Common.{◌≡◌, ℕ, ◌+◌, ◌-◌, ◌<◌, Bool, true, false, cond, ◌&&◌, ◌||◌, eqb, List, [], ◌∷◌, ◌++◌, take, Ok, Result, sym, refl, ap, ◌∙◌, ap₂, arith}
+use Rattle.std.proofs.Common.{◌≡◌, ℕ, ◌+◌, ◌-◌, ◌<◌, Bool, true, false, cond, ◌&&◌, ◌||◌, eqb, List, [], ◌∷◌, ◌++◌, Result, sym, refl, ap, ◌∙◌, arith}
 use mathlib.Core.Bool.{or_assoc, or_comm}
-use Rattle.std.proofs.lemmas.List.{take_more_set}
-use Rattle.std.proofs.lemmas.Bool.{ne_eqb}
-use Rattle.std.specs.Prelude.{◌==◌, nat_le}
 use Rattle.model.specs.declared.refusals.Refusal.{Refusal}
-use Rattle.model.specs.declared.refusals.Refusal.TheVariants.{ShortRow, NoSuch}
 use Rattle.model.specs.Actions.{Action}
 use Rattle.model.specs.Causes.{Causes, clear, first}
 use Rattle.model.specs.Meaning.{Meaning, Lawful, refined, looked, differ}
 use Rattle.model.specs.Rows.{bit}
-use Rattle.model.specs.Stages.{StageMeaning, causes, short, taken, Steps}
+use Rattle.model.specs.Stages.{StageMeaning, causes, taken, Steps}
 use Rattle.model.proofs.Steps.{same_answers, gone_bits_idle, lawful_refined}
 use Rattle.looking.specs.declared.looks.Slot.{Slot}
-use Rattle.looking.specs.declared.slots.Slots.{Slots}
-use Rattle.looking.specs.Slots.{kept, Filled}
 use Rattle.looking.specs.Looks.{tells, told, HoldsLook}
 use Rattle.looking.specs.FairLooks.{told_splits}
 use Rattle.looking.specs.Layer.{and_looks}
@@ -68,28 +62,3 @@ over_down ss s s' p row n r none steps = record {
     both : (b : Bool) → over ss n (cond b (taken (Action.look p row) s) s) ≡ cond b (taken (Action.look p row) (over ss n s)) (over ss n s)
     both true = λ i. record { model = models i; takes = record { hears = s.takes.hears; looks = fewer i; puts = s.takes.puts } }
     both false = refl
-
--- a table with one slot more filled keeps one look more
-pub over_filled : (t u : Slots Slot) (new : Slot) (s : StageMeaning) → t.used < 16 → Filled t new u → over (kept u) (16 - u.used) s ≡ over (kept t ++ (new ∷ [])) (16 - t.used - 1) s
-over_filled t u new s room f =
-    let slots : kept u ≡ kept t ++ (new ∷ []) = ap₂ (λ (k : ℕ) (ss : List Slot). take k ss) f.1 f.0 ∙ take_more_set t.slots t.used new (omega (arith, t.whole)) in
-    let rest : 16 - u.used ≡ 16 - t.used - 1 = omega (arith, f.1) in
-    ap₂ (λ (ss : List Slot) (n : ℕ). over ss n s) slots rest
-
--- nothing is refused
-abbrev accepted : Result (Unit {0}) Refusal
-accepted = Ok tt
-
--- what is not refused is not the case
-passed : (b : Bool) (e : Refusal) → accepted ≡ first ((b, e) ∷ []) tt → b ≡ false
-passed true e h = absurd (cc h)
-passed false e h = refl
-
--- a look that nothing refuses, while one is left
-pub look_taken : (p n : ℕ) (row : List ℕ) (s s' : StageMeaning) → n ≡ s.model.agents → accepted ≡ first ((short row s.model, ShortRow) ∷ []) tt
-    → accepted ≡ first ((nat_le n p, NoSuch) ∷ []) tt → 0 < s.takes.looks → s' ≡ taken (Action.look p row) s → Steps (Action.look p row) s accepted s'
-look_taken p n row s s' agents long there some e =
-    let a = passed _ _ long in
-    let b : nat_le s.model.agents p ≡ false = ap (λ (k : ℕ). nat_le k p) (sym agents) ∙ passed _ _ there in
-    let left : (s.takes.looks == 0) ≡ false = ne_eqb s.takes.looks 0 (λ z. omega arith) in
-    record { answers = rw (a, b, left) refl; leaves = rw (a, b, left) e }

@@ -1,6 +1,8 @@
 // The looking layer: it fills its own slots before it hands a look down.
-ghost use Rattle.std.specs.Prelude.{◌≡◌};
-ghost use Rattle.model.specs.Stages.{stage_of};
+ghost use Rattle.std.specs.Prelude.{◌≡◌, ◌≤◌, is_some, nat_lt};
+ghost use Rattle.std.specs.Option.{OnSome, IfNone};
+ghost use Rattle.model.specs.Actions.{Action};
+ghost use Rattle.model.specs.Stages.{stage_of, taken, Steps};
 ghost use Rattle.model.proofs.Steps.{lawful_refined};
 ghost use Rattle.looking.specs.Slots.{kept};
 ghost use Rattle.looking.specs.Looks.{told};
@@ -29,6 +31,23 @@ impl<S: Stage> LookingLayer<S> {
             below,
             table: Slots::new(Slot::blank()),
         }
+    }
+
+    // Keeps the look in a slot of its own, if one is empty.
+    fn keep(&mut self, agent: u16, row: &[u64]) -> Option<()>
+        ensures keeps_while_a_slot_is_empty { is_some result ≡ nat_lt self.old.table.used 16 }
+        ensures takes_the_look { OnSome result (stage_of (looking_meaning S.Model.meaning) (looking_takes S.Stage.takes) self.new ≡ taken (Action.look agent row.now) (stage_of (looking_meaning S.Model.meaning) (looking_takes S.Stage.takes) self.old)) }
+        ensures stays_when_full { IfNone result (self.new ≡ self.old) }
+    {
+        self.table.keep(agent, row)
+    }
+
+    // Has the look taken below.
+    fn hand_down(&mut self, agent: u16, row: &[u64]) -> Result<(), Refusal>
+        requires is_full { 16 ≤ self.old.table.used }
+        ensures takes_the_look_below { Steps (Action.look agent row.now) (stage_of (looking_meaning S.Model.meaning) (looking_takes S.Stage.takes) self.old) result (stage_of (looking_meaning S.Model.meaning) (looking_takes S.Stage.takes) self.new) }
+    {
+        self.below.look(agent, row)
     }
 }
 
@@ -92,9 +111,9 @@ impl<S: Stage> Stage for LookingLayer<S> {
     fn look(&mut self, agent: u16, row: &[u64]) -> Result<(), Refusal> {
         check_row(row, &self.below)?;
         check_number(agent, self.below.agents())?;
-        match self.table.keep(agent, row) {
+        match self.keep(agent, row) {
             Some(()) => Ok(()),
-            None => self.below.look(agent, row),
+            None => self.hand_down(agent, row),
         }
     }
 

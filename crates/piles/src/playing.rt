@@ -25,6 +25,8 @@ pub fn play<S: Stage + Drop>(
     Ok(verdict_on(&stage))
 }
 
+// Each pile below is of another type, so what the four share takes the pile ready made: it is `play`.
+
 // The same on hearing over looking over putting.
 pub fn play_hearing_first<M: Model + Drop>(
     model: M,
@@ -33,11 +35,8 @@ pub fn play_hearing_first<M: Model + Drop>(
 ) -> Result<Verdict, Refusal>
     ensures plays_on_16_looks { Played (full_stage 16 (M.Model.meaning model)) steps.now answers.old result answers.new }
 {
-    let floor = Floor::new(model);
-    let putting = PuttingLayer::new(floor);
-    let looking = LookingLayer::new(putting);
-    let hearing = HearingLayer::new(looking);
-    play(hearing, steps, answers)
+    let pile = HearingLayer::new(LookingLayer::new(PuttingLayer::new(Floor::new(model))));
+    play(pile, steps, answers)
 }
 
 // The same on putting over looking over hearing.
@@ -48,11 +47,8 @@ pub fn play_putting_first<M: Model + Drop>(
 ) -> Result<Verdict, Refusal>
     ensures plays_on_16_looks { Played (full_stage 16 (M.Model.meaning model)) steps.now answers.old result answers.new }
 {
-    let floor = Floor::new(model);
-    let hearing = HearingLayer::new(floor);
-    let looking = LookingLayer::new(hearing);
-    let putting = PuttingLayer::new(looking);
-    play(putting, steps, answers)
+    let pile = PuttingLayer::new(LookingLayer::new(HearingLayer::new(Floor::new(model))));
+    play(pile, steps, answers)
 }
 
 // The same on looking over hearing over putting.
@@ -63,11 +59,8 @@ pub fn play_looking_first<M: Model + Drop>(
 ) -> Result<Verdict, Refusal>
     ensures plays_on_16_looks { Played (full_stage 16 (M.Model.meaning model)) steps.now answers.old result answers.new }
 {
-    let floor = Floor::new(model);
-    let putting = PuttingLayer::new(floor);
-    let hearing = HearingLayer::new(putting);
-    let looking = LookingLayer::new(hearing);
-    play(looking, steps, answers)
+    let pile = LookingLayer::new(HearingLayer::new(PuttingLayer::new(Floor::new(model))));
+    play(pile, steps, answers)
 }
 
 // The same on looking over hearing over looking over putting, which takes 32 looks.
@@ -78,10 +71,7 @@ pub fn play_looking_twice<M: Model + Drop>(
 ) -> Result<Verdict, Refusal>
     ensures plays_on_32_looks { Played (full_stage 32 (M.Model.meaning model)) steps.now answers.old result answers.new }
 {
-    let floor = Floor::new(model);
-    let putting = PuttingLayer::new(floor);
-    let lower = LookingLayer::new(putting);
-    let hearing = HearingLayer::new(lower);
-    let upper = LookingLayer::new(hearing);
-    play(upper, steps, answers)
+    let lower = LookingLayer::new(PuttingLayer::new(Floor::new(model)));
+    let pile = LookingLayer::new(HearingLayer::new(lower));
+    play(pile, steps, answers)
 }

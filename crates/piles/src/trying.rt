@@ -44,45 +44,49 @@ fn script() -> [Step<'static>; STEPS] {
     ]
 }
 
-// The number that is reported of an answer.
-fn number(answer: Result<(), Refusal>) -> u16 {
-    match answer {
-        Ok(()) => 0,
-        Err(refusal) => refusal.number(),
-    }
+// Whether a way to play plays the script as it should: the worlds 1, 2 and 4 are left, and its fourth, fifth and sixth
+// steps are refused.
+fn is_due<F>(play: F, circle: Hats) -> bool
+where
+    F: FnOnce(Hats, &[Step<'_>], &mut [Result<(), Refusal>]) -> Result<Verdict, Refusal>,
+    requires { F.IsAlwaysCallable play }
+{
+    let mut answers = [Ok(()); STEPS];
+    let verdict = play(circle, &script(), &mut answers);
+    let left = Verdict::Rivals {
+        count: 3,
+        lowest: 1,
+        second: 2,
+    };
+    let short = Err(Refusal::ShortRow);
+    let absent = Err(Refusal::NoSuch);
+    let due = [
+        Ok(()),
+        Ok(()),
+        Ok(()),
+        short,
+        absent,
+        absent,
+        Ok(()),
+        Ok(()),
+    ];
+    verdict == Ok(left) && answers == due
 }
 
-// Whether the script ended as it should: the worlds 1, 2 and 4 are left, and its fourth, fifth and sixth steps were refused.
-fn is_due(verdict: Result<Verdict, Refusal>, answers: &[Result<(), Refusal>]) -> bool {
-    let due = [0, 0, 0, 7, 4, 4, 0, 0];
-    let mut same = matches!(
-        verdict,
-        Ok(Verdict::Rivals {
-            count: 3,
-            lowest: 1,
-            second: 2
-        })
-    );
-    for (answer, number_due) in answers.iter().zip(due) {
-        same &= number(*answer) == number_due;
-    }
-    same
+// Whether the two models answer every question about the agent at the world alike.
+fn same_for<L: Model, R: Model>(left: &L, right: &R, agent: u16, world: u16) -> bool {
+    let told_alike = |other| left.distinguishes(agent, world, other)
+        == right.distinguishes(agent, world, other);
+    left.fact(agent, world) == right.fact(agent, world) && (0..left.width()).all(told_alike)
 }
 
 // Whether the two models answer every question about their worlds alike.
 fn same_worlds<L: Model, R: Model>(left: &L, right: &R) -> bool {
-    let mut same = left.width() == right.width();
-    for world in 0..left.width() {
-        same &= left.survives(world) == right.survives(world);
-        for agent in 0..left.agents() {
-            same &= left.fact(agent, world) == right.fact(agent, world);
-            for other in 0..left.width() {
-                let told = left.distinguishes(agent, world, other);
-                same &= told == right.distinguishes(agent, world, other);
-            }
-        }
-    }
-    same
+    let same_at = |world| {
+        left.survives(world) == right.survives(world)
+            && (0..left.agents()).all(|agent| same_for(left, right, agent, world))
+    };
+    left.width() == right.width() && (0..left.width()).all(same_at)
 }
 
 // Whether two stages are alike, answer the script alike, and stay alike.
@@ -94,44 +98,17 @@ fn stay_alike<L: Stage, R: Stage>(left: &mut L, right: &mut R) -> bool {
 
 // The last of 40 looks that a stage takes, counted from 1.
 fn last_look<S: Stage>(stage: &mut S) -> u16 {
-    let mut last = 0;
-    for place in 1..41 {
-        if stage.look(2, &SECOND).is_ok() {
-            last = place;
-        }
-    }
-    last
-}
-
-fn is_due_hearing_first(circle: Hats) -> bool {
-    let mut answers = [Ok(()); STEPS];
-    let verdict = play_hearing_first(circle, &script(), &mut answers);
-    is_due(verdict, &answers)
-}
-
-fn is_due_putting_first(circle: Hats) -> bool {
-    let mut answers = [Ok(()); STEPS];
-    let verdict = play_putting_first(circle, &script(), &mut answers);
-    is_due(verdict, &answers)
-}
-
-fn is_due_looking_first(circle: Hats) -> bool {
-    let mut answers = [Ok(()); STEPS];
-    let verdict = play_looking_first(circle, &script(), &mut answers);
-    is_due(verdict, &answers)
-}
-
-fn is_due_looking_twice(circle: Hats) -> bool {
-    let mut answers = [Ok(()); STEPS];
-    let verdict = play_looking_twice(circle, &script(), &mut answers);
-    is_due(verdict, &answers)
+    (1..41)
+        .filter(|_| stage.look(2, &SECOND).is_ok())
+        .last()
+        .unwrap_or(0)
 }
 
 #[test]
 fn four_piles_answer_alike(rt: HostRuntime) -> Result<(), Fail> {
     let circle = Hats::new(Sight::Circle, 3)?;
-    assert!(rt; is_due_hearing_first(circle) && is_due_putting_first(circle));
-    assert!(rt; is_due_looking_first(circle) && is_due_looking_twice(circle));
+    assert!(rt; is_due(play_hearing_first, circle) && is_due(play_putting_first, circle));
+    assert!(rt; is_due(play_looking_first, circle) && is_due(play_looking_twice, circle));
     Ok(())
 }
 

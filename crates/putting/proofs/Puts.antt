@@ -1,5 +1,5 @@
 -- Facts put one after another, and a layer that keeps none.
-use Rattle.std.proofs.Common.{◌≡◌, ℕ, ◌<◌, Bool, true, false, cond, ◌&&◌, eqb, ltb, List, length, get_or, set, replicate, Some, None, Option, refl, ◌∙◌, inl, inr, ⊎_elim}
+use Rattle.std.proofs.Common.{◌≡◌, ℕ, ◌<◌, Bool, true, false, cond, ◌&&◌, eqb, ltb, List, length, get_or, set, replicate, Some, None, Option, refl, ◌∙◌, inl, inr, ⊎_elim, arith}
 use lib.ListN.{get_or-replicate, length-replicate}
 use Rattle.std.proofs.lemmas.List.{get_or-set_same, get_or-set_other, get_or_past}
 use Rattle.std.proofs.lemmas.Bool.{cases_eq, cases_lt, eq-eqb, ne_eqb, lt-ltb}
@@ -37,8 +37,9 @@ module _ (m : Meaning) where
           | inr n ↦ rw (ne_eqb g f n, get_or-set_other rows f g (Some new) None n) refl
         ]
 
-    pub put_kept : (row : ℕ → Bool) → ((w : ℕ) → m.survives w ≡ true → bit new w ≡ row w)
+    pub put_kept : (row : ℕ → Bool) → ((w : ℕ) → w < 4096 → bit new w ≡ row w)
         → replaced (put_facts m (set rows f (Some new))) (put_rows (set rows f (Some new))) m ≡ put f row (replaced (put_facts m rows) (put_rows rows) m)
     put_kept row same =
         let before = replaced (put_facts m rows) (put_rows rows) m in
-        kept ∙ (gone_bits_idle before (lawful_replaced m (put_facts m rows) (put_rows rows) (put_facts_there m rows) law) (bit new) row same).2 f
+        kept ∙ (gone_bits_idle before (lawful_replaced m (put_facts m rows) (put_rows rows) (put_facts_there m rows) law) (bit new) row
+        (λ w e. same w (omega (arith, law.within w e, law.few_worlds)))).2 f

@@ -1,5 +1,5 @@
 // The putting layer: it keeps a row for each fact that was put, and always puts.
-ghost use Rattle.std.specs.Prelude.{◌≡◌, ◌<◌};
+ghost use Rattle.std.specs.Prelude.{◌≡◌, ◌<◌, replicate, None};
 ghost use Rattle.model.specs.Actions.{Action};
 ghost use Rattle.model.specs.Stages.{stage_of, taken};
 ghost use Rattle.model.proofs.Steps.{lawful_replaced};
@@ -26,10 +26,15 @@ impl<S: Stage> PuttingLayer<S> {
     pub fn new(below: S) -> PuttingLayer<S>
         ensures is_the_stage_below_and_puts { stage_of (putting_meaning S.Model.meaning) (putting_takes S.Stage.takes) result ≡ putting_stage (stage_of S.Model.meaning S.Stage.takes below) }
     {
-        PuttingLayer {
-            below,
-            rows: [None; MAX_FACTS],
-        }
+        PuttingLayer::keeping(below, [None; MAX_FACTS])
+    }
+
+    // A layer with no row kept. `new` calls it so as to stay free of a proof file, for its edit.
+    fn keeping(below: S, rows: [Option<[u64; MAX_WORDS]>; MAX_FACTS]) -> PuttingLayer<S>
+        requires keeps_none { rows ≡ replicate 16 None }
+        ensures is_the_stage_below_and_puts { stage_of (putting_meaning S.Model.meaning) (putting_takes S.Stage.takes) result ≡ putting_stage (stage_of S.Model.meaning S.Stage.takes below) }
+    {
+        PuttingLayer { below, rows }
     }
 
     // Keeps the row for the fact.

@@ -1,7 +1,8 @@
 -- Rows heard one after another, and a row of every world.
-use Prim.Native.Nat.{ℕ}
+use Prim.Native.Nat.{ℕ, ◌<◌}
 use mathlib.Core.Path.{◌≡◌, refl, sym, ◌∙◌}
 use mathlib.Core.Bool.{Bool, true, false, not, cond, ◌&&◌, ◌||◌, and-true, and_assoc, or-false}
+use native.Mathlib.Omega.{arith}
 use Rattle.model.specs.Meaning.{Meaning, Lawful, heard}
 use Rattle.model.proofs.Steps.{same_answers, gone_bits_idle}
 
@@ -22,15 +23,19 @@ cond_and false true n = refl
 cond_and false false n = refl
 
 module _ (m : Meaning) (law : Lawful m) where
-  -- a row of all survivors alters nothing
-  pub heard_all : (row : ℕ → Bool) → ((w : ℕ) → m.survives w ≡ true → row w ≡ true) → heard row m ≡ m
+  -- a survivor is one of 4,096 worlds
+  small : (w : ℕ) → m.survives w ≡ true → w < 4096
+  small w e = omega (arith, law.within w e, law.few_worlds)
+
+  -- a row of every world alters nothing
+  pub heard_all : (row : ℕ → Bool) → ((w : ℕ) → w < 4096 → row w ≡ true) → heard row m ≡ m
   heard_all row all =
-      (gone_bits_idle m law row (λ _. true) all).0
+      (gone_bits_idle m law row (λ _. true) (λ w e. all w (small w e))).0
       ∙ same_answers m (λ w. and-true (m.survives w)) (λ p u v. or-false (m.distinguishes p u v)) (λ f w. and-true (m.fact f w)) (λ q w. refl)
 
   -- to hear two rows is to hear what both have
-  pub heard_both : (a b c : ℕ → Bool) → ((w : ℕ) → m.survives w ≡ true → c w ≡ (a w && b w)) → heard c m ≡ heard b (heard a m)
+  pub heard_both : (a b c : ℕ → Bool) → ((w : ℕ) → w < 4096 → c w ≡ (a w && b w)) → heard c m ≡ heard b (heard a m)
   heard_both a b c both =
-      (gone_bits_idle m law c (λ w. a w && b w) both).0
+      (gone_bits_idle m law c (λ w. a w && b w) (λ w e. both w (small w e))).0
       ∙ same_answers m (λ w. sym (and_assoc (m.survives w) (a w) (b w))) (λ p u v. lacks (m.distinguishes p u v) (a u) (b u) (a v) (b v))
       (λ f w. sym (and_assoc (m.fact f w) (a w) (b w))) (λ q w. cond_and (a w) (b w) (m.quantity q w))

@@ -8,9 +8,6 @@ use Rattle.piles.proofs.playing.play_looking_twice.Goals as goal
 
 pub returns : goal.returns
 returns g c =
-    let pile = c.new-upper.ensures.is_the_stage_below_with_16_looks_more
-    ∙ ap (λ (s : StageMeaning). looking_stage s) c.new-hearing.ensures.is_the_stage_below_and_hears
-    ∙ ap (λ (s : StageMeaning). looking_stage (hearing_stage s)) c.new-lower.ensures.is_the_stage_below_with_16_looks_more
-    ∙ ap (λ (s : StageMeaning). looking_stage (hearing_stage (looking_stage s))) c.new-putting.ensures.is_the_stage_below_and_puts
-    ∙ ap (λ (s : StageMeaning). looking_stage (hearing_stage (looking_stage (putting_stage s)))) c.new-floor.ensures.is_the_model_without_steps in
+    let lower = c.new-lower.ensures.is_the_stage_below_with_16_looks_more ∙ ap looking_stage (c.new-2.ensures.is_the_stage_below_and_puts ∙ ap putting_stage c.new.ensures.is_the_model_without_steps) in
+    let pile = c.new-pile.ensures.is_the_stage_below_with_16_looks_more ∙ ap looking_stage (c.new-3.ensures.is_the_stage_below_and_hears ∙ ap hearing_stage lower) in
     record { plays_on_32_looks = subst (λ (s : StageMeaning). Played s c.args.steps.now c.args.answers.now c.play.result c.play.new.answers) pile c.play.ensures.plays_the_steps }

@@ -13,5 +13,5 @@ returns g c =
     let law = g.S.Model.lawful below in
     let place : c.args.fact < length c.args.self.now.rows = search rules in
     let kept = put_kept (g.S.Model.meaning below) law c.args.self.now.rows c.args.fact c.whole_row.result c.requires.is_a_fact place (bit c.args.row.now)
-    (λ w e. c.whole_row.ensures.has_the_same_worlds w (omega (arith, law.within w e, law.few_worlds))) in
+    c.whole_row.ensures.has_the_same_worlds in
     record { puts_the_fact = λ i. record { model = kept i; takes = and_puts (g.S.Stage.takes below) } }

@@ -1,7 +1,5 @@
-use Prim.Native.Nat.{ℕ, ◌<◌}
-use mathlib.Core.Path.{◌≡◌, ap, ◌∙◌}
-use mathlib.Core.Bool.{Bool, true, ◌&&◌}
-use native.Mathlib.Omega.{arith}
+use mathlib.Core.Path.{ap, ◌∙◌}
+use mathlib.Core.Bool.{Bool, ◌&&◌}
 use Rattle.model.specs.Rows.{bit}
 use Rattle.stages.specs.Layers.{and_hears}
 use Rattle.stages.proofs.Heard.{heard_both}
@@ -10,9 +8,6 @@ use Rattle.stages.proofs.hearing.HearingLayer.strike.Goals as goal
 pub returns : goal.returns
 returns g c =
     let below = c.args.self.now.below in
-    let law = g.S.Model.lawful below in
-    let within : (w : ℕ) → (g.S.Model.meaning below).survives w ≡ true → w < 4096 = λ w e. omega (arith, law.within w e, law.few_worlds) in
-    let both = heard_both (g.S.Model.meaning below) law (bit c.args.self.now.row) (bit c.args.row.now) (bit c.both_rows-self.result)
-    (λ w e. c.both_rows-self.ensures.has_what_both_have w (within w e)
-    ∙ ap (λ (x : Bool). bit c.args.self.now.row w && x) (c.whole_row.ensures.has_the_same_worlds w (within w e))) in
+    let both = heard_both (g.S.Model.meaning below) (g.S.Model.lawful below) (bit c.args.self.now.row) (bit c.args.row.now) (bit c.both_rows-self.result)
+    (λ w h. c.both_rows-self.ensures.has_what_both_have w h ∙ ap (λ (x : Bool). bit c.args.self.now.row w && x) (c.whole_row.ensures.has_the_same_worlds w h)) in
     record { hears_the_row = λ i. record { model = both i; takes = and_hears (g.S.Stage.takes below) } }
