@@ -9,21 +9,6 @@ use Rattle.settings.specs.Readings.{date_numbers}
 use Rattle.text.specs.declared.dates.MonthDay.{MonthDay}
 use Rattle.text.specs.Dates.{month_day}
 
--- a date that was made, and one that was refused
-pub made_date : (d x : ℕ × ℕ) → Ok x ≡ date_of d → (is_date d ≡ true) × (x ≡ d)
-made_date d x e = go (is_date d) e
-  where
-    go : (b : Bool) → Ok x ≡ cond b (Ok d) (Err BadDate) → (b ≡ true) × (x ≡ d)
-    go true e = (refl, cc)
-    go false e = let z : ◌≡◌ {A = ℕ} 0 1 = cc in absurd (omega arith)
-
-pub no_date : (d : ℕ × ℕ) (r : Refusal) → Err r ≡ date_of d → (is_date d ≡ false) × (r ≡ BadDate)
-no_date d r e = go (is_date d) e
-  where
-    go : (b : Bool) → Err r ≡ cond b (Ok d) (Err BadDate) → (b ≡ false) × (r ≡ BadDate)
-    go true e = let z : ◌≡◌ {A = ℕ} 0 1 = cc in absurd (omega arith)
-    go false e = (refl, cc)
-
 module _ (days : List MonthDay) (i : ℕ) where
   pub dates_more : (d : MonthDay) → i < length days → is_date (month_day (get_or days i d)) ≡ true → are_dates (map month_day (drop i days)) ≡ are_dates (map month_day (drop (i + 1) days))
   unfolding are_dates

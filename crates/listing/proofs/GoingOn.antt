@@ -4,8 +4,8 @@ use Rattle.std.proofs.lemmas.Bool.{le-ltb, cond-false}
 use Rattle.model.specs.declared.refusals.Refusal.{Refusal}
 use Rattle.model.specs.Meaning.{Meaning}
 use Rattle.text.specs.Lines as said
-use Rattle.listing.specs.declared.entries.Entry.{Entry}
 use Rattle.listing.specs.declared.outcomes.Header.{Header}
+use Rattle.listing.specs.Outcomes.{Entry}
 use Rattle.listing.specs.Lines.{onto, lines_of, blank}
 use Rattle.listing.specs.Listing.{Page, Filled, answered, entries_from, first_filled, model_of, plays, sets, begun, opened, page}
 use Rattle.listing.specs.Laws.{GoesOn, StaysRefused}

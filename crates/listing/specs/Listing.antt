@@ -10,11 +10,8 @@ use Rattle.settings.specs.Pairs.{pairs_of}
 use Rattle.settings.specs.Dates.{dates_of}
 use Rattle.text.specs.Faults.{Fault}
 use Rattle.text.specs.Lines as said
-use Rattle.listing.specs.declared.entries.Entry.{Entry}
 use Rattle.listing.specs.declared.outcomes.Header.{Header}
-use Rattle.listing.specs.declared.outcomes.Refused.{Refused}
-use Rattle.listing.specs.declared.outcomes.Outcome.{Outcome}
-use Rattle.listing.specs.declared.outcomes.Outcome.TheVariants as outcome
+use Rattle.listing.specs.Outcomes.{Refused, Outcome, refusal, Entry}
 use Rattle.listing.specs.Findings.{header_of, outcome_of}
 use Rattle.listing.specs.Lines.{blank, lines_of}
 use Rattle.listing.specs.Texts.{heading, printed}
@@ -37,11 +34,11 @@ pub record Page : Type 0 where
 
 -- a listing of one refusal, at line n
 abbrev pub refusing : ℕ → Refused → Page
-refusing n r = record { header = None; entries = record { number = n; outcome = outcome.Refusal r } ∷ [] }
+refusing n r = record { header = None; entries = record { number = n; outcome = refusal r } ∷ [] }
 
 -- what is said of a later line
 abbrev pub answered : Meaning → said.Answer said.Request → Outcome
-answered m (said.refused f) = outcome.Refusal (of_fault f)
+answered m (said.refused f) = refusal (of_fault f)
 answered m (said.accepted said.verdict) = outcome_of m (verdict_of m)
 
 -- an entry for each line that is not blank, the first of the lines having number n
