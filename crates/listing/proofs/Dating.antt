@@ -1,10 +1,8 @@
 -- The dates of a line, one after another.
-use Rattle.std.proofs.Common.{◌≡◌, ℕ, ◌+◌, ◌<◌, ◌≤◌, Bool, true, false, cond, ◌&&◌, List, [], ◌∷◌, ◌++◌, map, length, get_or, take, drop, Ok, Err, sym, refl, ap, ◌∙◌, ap₂, arith}
+use Rattle.std.proofs.Common.{◌≡◌, ℕ, ◌+◌, ◌<◌, ◌≤◌, Bool, true, false, ◌&&◌, List, [], ◌∷◌, ◌++◌, map, length, get_or, take, drop, sym, ap, ◌∙◌, ap₂}
 use Rattle.std.proofs.lemmas.List.{drop_more, drop_all, map_more, map-append}
-use Rattle.model.specs.declared.refusals.Refusal.{Refusal}
-use Rattle.model.specs.declared.refusals.Refusal.TheVariants.{BadDate}
 use Rattle.settings.specs.declared.dates.Date.{Date}
-use Rattle.settings.specs.Dates.{is_date, date_of, are_dates}
+use Rattle.settings.specs.Dates.{is_date, are_dates}
 use Rattle.settings.specs.Readings.{date_numbers}
 use Rattle.text.specs.declared.dates.MonthDay.{MonthDay}
 use Rattle.text.specs.Dates.{month_day}

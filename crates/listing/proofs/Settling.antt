@@ -1,19 +1,18 @@
 -- The page of a setting, from what its making answers.
-use Rattle.std.proofs.Common.{◌≡◌, ℕ, ◌≤◌, Bool, true, false, cond, ◌&&◌, leb, List, map, length, take, drop, is_ok, Ok, Err, Result, sym, refl, ap, ◌∙◌, arith, take_at}
+use Rattle.std.proofs.Common.{◌≡◌, ℕ, ◌≤◌, Bool, true, false, cond, ◌&&◌, leb, List, map, length, take, drop, is_ok, Ok, Err, sym, refl, ap, ◌∙◌, arith, take_at}
 use Rattle.std.proofs.lemmas.List.{length-map, take-map}
-use Rattle.std.proofs.lemmas.Bool.{and_from, le-leb, cond-true}
+use Rattle.std.proofs.lemmas.Bool.{and_from, le-leb}
 use Rattle.model.specs.declared.refusals.Refusal.{Refusal}
 use Rattle.model.specs.declared.refusals.Refusal.TheVariants.{CaseCount, BadDate}
 use Rattle.model.specs.Meaning.{Meaning}
 use Rattle.settings.specs.declared.dates.Date.{Date}
-use Rattle.settings.specs.Cases.{checked}
 use Rattle.settings.specs.Pairs.{pairs, fill_answer, laid, filled, pairs_meaning, pairs_of}
 use Rattle.settings.specs.Dates.{are_dates, dates_meaning, dates_of}
 use Rattle.settings.specs.Readings.{date_numbers}
 use Rattle.settings.proofs.Listing.{admitted, count_step}
-use Rattle.text.specs.declared.dates.MonthDay.{MonthDay}
-use Rattle.text.specs.Dates.{month_day}
-use Rattle.listing.specs.Listing.{played, plays, of_refusal}
+use Rattle.text.specs.declared.lines.Setting.{Setting}
+use Rattle.text.specs.Lines.{Opening, Answer, accepted, opening_for, read_setting}
+use Rattle.listing.specs.Listing.{played, model_of, plays, sets, of_refusal}
 
 -- what a test answers is a value where it holds, and a refusal where it does not
 pub held : {X : Type 0} (b : Bool) (x y : X) (r : Refusal) → Ok x ≡ cond b (Ok y) (Err r) → (b ≡ true) × (x ≡ y)
@@ -72,6 +71,10 @@ dated said ds dates made e f q holds =
     record { all = ap are_dates (sym e) ∙ so; same = same; long = sym (length-map dates date_numbers) ∙ ap length same }
 
 module _ (n : ℕ) (ls : List (List ℕ)) where
+  -- what a setting line asks for, from the setting that was read
+  pub asked : (x v : Setting) (ds : List (ℕ × ℕ)) (line : List ℕ) → x ≡ v → accepted (opening_for x ds) ≡ read_setting line → plays (model_of (opening_for v ds)) n ls ≡ sets (read_setting line) n ls
+  asked x v ds line e q = ap (λ (a : Answer Opening). sets a n ls) (ap (λ (y : Setting). accepted (opening_for y ds)) (sym e) ∙ q)
+
   pub pairs_refused : (low sum : ℕ) (e : Refusal) → Err e ≡ fill_answer low sum 4096 → Err (of_refusal e) ≡ plays (pairs_of low sum) n ls
   unfolding pairs_of
   pairs_refused low sum e q = rw (sym q) refl

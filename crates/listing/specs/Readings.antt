@@ -1,5 +1,4 @@
 -- What the program's values say of a line.
-use Rattle.std.specs.Prelude.{ℕ}
 use Rattle.text.specs.Faults.{of_line}
 use Rattle.listing.specs.declared.outcomes.Refused.{Refused as Cause}
 use Rattle.listing.specs.declared.outcomes.Refused.TheVariants as cause

@@ -13,7 +13,7 @@ abbrev pub placed : Refused → List ℕ
 placed r = decimal r.number ++ (32 ∷ decimal r.column)
 
 -- a word, and its numbers
-unfoldable pub said : Outcome → List ℕ
+abbrev pub said : Outcome → List ℕ
 said contradiction = codes "none"
 said (unique w q) = codes "unique" ++ fields (w ∷ q)
 said (rivals n u v) = codes "rivals" ++ fields (n ∷ u ∷ v ∷ [])
@@ -24,11 +24,11 @@ abbrev pub field : List ℕ → ℕ → List ℕ
 field word n = 32 ∷ (word ++ 32 ∷ decimal n)
 
 -- how many worlds, agents, facts and quantities there are
-unfoldable pub headed : Header → List ℕ
+abbrev pub headed : Header → List ℕ
 headed h = codes "worlds " ++ (decimal h.worlds ++ (field (codes "agents") h.agents ++ (field (codes "facts") h.facts ++ field (codes "quantities") h.quantities)))
 
 -- a line of the listing: its number, and what is said of it
-unfoldable pub numbered : Entry → List ℕ
+abbrev pub numbered : Entry → List ℕ
 numbered e = decimal e.number ++ (32 ∷ said e.outcome)
 
 abbrev pub printed : List Entry → List ℕ

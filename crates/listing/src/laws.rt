@@ -5,11 +5,9 @@ ghost use Rattle.listing.specs.Laws.{GoesOn, StaysRefused, KnownSettings};
 pub fn listings_go_on()
     ensures goes_on { GoesOn }
     ensures stays_refused { StaysRefused }
-{
-}
+{}
 
 // Five settings and their whole listings.
 pub fn known_settings()
     ensures lists_known_settings { KnownSettings }
-{
-}
+{}

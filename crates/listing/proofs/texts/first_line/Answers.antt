@@ -1,4 +1,4 @@
-use Rattle.std.proofs.Common.{◌≡◌, ℕ, ◌+◌, ◌<◌, false, eqb, rules, add-one, length, Some, None, arith, get_or, sym}
+use Rattle.std.proofs.Common.{ℕ, eqb, rules, add-one, Some, None, sym}
 use Rattle.std.proofs.lemmas.List.{take_rest}
 use Rattle.std.proofs.lemmas.List.Quantifiers.{position-Some}
 use Rattle.std.proofs.lemmas.Iterator.{YieldsList-from_slice}

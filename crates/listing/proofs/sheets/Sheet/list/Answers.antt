@@ -1,4 +1,4 @@
-use Rattle.std.proofs.Common.{◌≡◌, ◌+◌, List, [], ◌∷◌, ◌++◌, Some, map, vec_items, sym, ap, ◌∙◌, append-nil, arith}
+use Rattle.std.proofs.Common.{◌≡◌, List, ◌++◌, Some, map, vec_items, sym, ap, ◌∙◌, append-nil, arith}
 use Rattle.std.proofs.lemmas.List.{map-append}
 use Rattle.listing.specs.Outcomes.{Entry}
 use Rattle.listing.specs.Lines.{lines_left}
@@ -19,7 +19,7 @@ loop-number-preserved g c =
       turned m it.number c.next.new.self.number (lines_left it.rest) _ (map entry_in before) (map entry_in (vec_items c.push_reserved.new.self)) _ s.first s.next
           (ap (map entry_in) c.push_reserved.ensures.items ∙ map-append entry_in before _)
           (λ i. record { number = c.in-Some.number; outcome = c.answer_line-outcome.ensures.answers_the_line i })
-      ∙ c.loop-number.invariant.2,
+          ∙ c.loop-number.invariant.2,
       omega (arith, s.less, c.loop-number.invariant.3, c.push_reserved.ensures.len),
       c.loop-number.invariant.4,
     )

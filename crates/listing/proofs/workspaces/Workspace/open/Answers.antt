@@ -1,4 +1,4 @@
-use Rattle.std.proofs.Common.{◌≡◌, ℕ, ◌+◌, ◌-◌, ◌≤◌, List, ◌++◌, map, length, take, Ok, vec_items, sym, ap, ◌∙◌, arith, length-take}
+use Rattle.std.proofs.Common.{◌≡◌, ℕ, List, ◌++◌, map, length, take, Ok, vec_items, sym, ap, ◌∙◌, arith, length-take}
 use Rattle.std.proofs.lemmas.Bool.{true≢false}
 use Rattle.std.proofs.Math.Seq.{take-append_seam}
 use Rattle.std.proofs.lemmas.Result.{err_from_is_err_and}
@@ -7,11 +7,9 @@ use Rattle.settings.specs.Pairs.{fill_answer, pairs_meaning}
 use Rattle.settings.specs.Dates.{are_dates, dates_meaning}
 use Rattle.settings.specs.Readings.{numbers, date_numbers, records}
 use Rattle.settings.proofs.Meanings.{pairs_mean, dates_mean}
-use Rattle.text.specs.Lines.{accepted, opening_for, pairs, dates, read_setting}
 use Rattle.text.specs.Dates.{month_day, days_of}
 use Rattle.listing.specs.Lines.{lines_left}
-use Rattle.listing.specs.Listing.{sets}
-use Rattle.listing.proofs.Settling.{held, failed, fair, is_fair, counted, pairs_front, dated, pairs_refused, pairs_played, dates_bad, dates_refused, dates_played}
+use Rattle.listing.proofs.Settling.{held, failed, fair, is_fair, counted, pairs_front, dated, asked, pairs_refused, pairs_played, dates_bad, dates_refused, dates_played}
 use Rattle.listing.proofs.workspaces.Workspace.open.Goals as goal
 
 -- the front of what stands in the places
@@ -25,10 +23,9 @@ returns-in_err-count-in-Pairs c =
     let sum = c.in-Pairs.sum in
     let n = c.args.lines.number in
     let ls = lines_left c.args.lines.rest in
-    let line : accepted (pairs low sum) ≡ read_setting c.args.line.now = ap (λ x. accepted (opening_for x (days_of c.read_setting.new.dates))) (sym c.in-Pairs.is) ∙ c.in_ok-low.ensures.answers_the_line in
     record {
       settles = rw (p.1, p.2) (pairs_refused n ls low sum c.in_err-count-in-Pairs.field-0.0 (c.in_err-count-in-Pairs.ensures.answers_how_many ∙ ap (fill_answer low sum) (c.as_mut_slice.ensures.len ∙ c.args.self.now.places))
-          ∙ ap (λ a. sets a n ls) line);
+          ∙ asked n ls _ _ (days_of c.read_setting.new.dates) c.args.line.now c.in-Pairs.is c.in_ok-low.ensures.answers_the_line);
     }
 
 pub returns-in_err-cases_of-in-Pairs : goal.returns-in_err-cases_of-in-Pairs
@@ -48,14 +45,13 @@ returns-in_ok-cases_of-in-Pairs c =
     let count = c.in_ok-count-in-Pairs.count in
     let answer = c.in_ok-count-in-Pairs.ensures.answers_how_many in
     let cases = c.in_ok-cases_of-in-Pairs.field-0.list in
-    let line : accepted (pairs low sum) ≡ read_setting c.args.line.now = ap (λ x. accepted (opening_for x (days_of c.read_setting.new.dates))) (sym c.in-Pairs.is) ∙ c.in_ok-low.ensures.answers_the_line in
     let is = (held (fair (length (take count c.deref.result.now))) (records cases) (take count c.deref.result.now) CaseCount c.in_ok-cases_of-in-Pairs.ensures.checks_the_list).1
-        ∙ ap (take count) c.deref.ensures.value ∙ front c.args.self.now.pairs.len count c.fill_pairs.new.list _ (omega (arith, c.fill_pairs.auto.list, c.as_mut_slice.ensures.len)) in
+    ∙ ap (take count) c.deref.ensures.value ∙ front c.args.self.now.pairs.len count c.fill_pairs.new.list _ (omega (arith, c.fill_pairs.auto.list, c.as_mut_slice.ensures.len)) in
     record {
       settles = ap Ok c.list.ensures.holds_the_page
           ∙ pairs_played n ls low sum count _ (answer ∙ ap (fill_answer low sum) (c.as_mut_slice.ensures.len ∙ c.args.self.now.places))
           (pairs_mean (records cases) ∙ ap pairs_meaning (ap (map numbers) is ∙ pairs_front numbers low sum count c.as_mut_slice.result.now c.fill_pairs.new.list answer c.in_ok-count-in-Pairs.ensures.fills_the_front))
-          ∙ ap (λ a. sets a n ls) line;
+          ∙ asked n ls _ _ (days_of c.read_setting.new.dates) c.args.line.now c.in-Pairs.is c.in_ok-low.ensures.answers_the_line;
     }
 
 pub returns-in_err-fill_dates-in-Dates : goal.returns-in_err-fill_dates-in-Dates
@@ -64,9 +60,8 @@ returns-in_err-fill_dates-in-Dates c =
     let n = c.args.lines.number in
     let ls = lines_left c.args.lines.rest in
     let ds = days_of c.read_setting.new.dates in
-    let line : accepted (dates ds) ≡ read_setting c.args.line.now = ap (λ x. accepted (opening_for x ds)) (sym c.in-Dates.is) ∙ c.in_ok-low.ensures.answers_the_line in
     let x = failed (are_dates (map month_day c.as_slice.result.now)) (tt {0}) BadDate c.in_err-fill_dates-in-Dates.field-0.0 c.in_err-fill_dates-in-Dates.ensures.tells_dates in
-    record { settles = rw (p.1, p.2, x.1) (dates_bad n ls ds (ap are_dates (sym c.as_slice.ensures.its_dates) ∙ x.0) ∙ ap (λ a. sets a n ls) line) }
+    record { settles = rw (p.1, p.2, x.1) (dates_bad n ls ds (ap are_dates (sym c.as_slice.ensures.its_dates) ∙ x.0) ∙ asked n ls _ _ (days_of c.read_setting.new.dates) c.args.line.now c.in-Dates.is c.in_ok-low.ensures.answers_the_line) }
 
 pub returns-in_err-cases_of-in-Dates : goal.returns-in_err-cases_of-in-Dates
 returns-in_err-cases_of-in-Dates c =
@@ -75,11 +70,10 @@ returns-in_err-cases_of-in-Dates c =
     let ls = lines_left c.args.lines.rest in
     let ds = days_of c.read_setting.new.dates in
     let made = c.as_slice-in-Dates.result.now in
-    let line : accepted (dates ds) ≡ read_setting c.args.line.now = ap (λ x. accepted (opening_for x ds)) (sym c.in-Dates.is) ∙ c.in_ok-low.ensures.answers_the_line in
     let d = dated (map month_day c.as_slice.result.now) ds made (vec_items c.fill_dates.new.dates) c.as_slice.ensures.its_dates c.as_slice-in-Dates.ensures.value
     c.in_ok-fill_dates-in-Dates.ensures.tells_dates c.in_ok-fill_dates-in-Dates.ensures.holds_the_dates in
     let x = failed (fair (length made)) made CaseCount c.in_err-cases_of-in-Dates.field-0.0 c.in_err-cases_of-in-Dates.ensures.checks_the_list in
-    record { settles = rw (p.1, p.2, x.1) (dates_refused n ls ds d.all (ap fair (sym d.long) ∙ x.0) ∙ ap (λ a. sets a n ls) line) }
+    record { settles = rw (p.1, p.2, x.1) (dates_refused n ls ds d.all (ap fair (sym d.long) ∙ x.0) ∙ asked n ls _ _ (days_of c.read_setting.new.dates) c.args.line.now c.in-Dates.is c.in_ok-low.ensures.answers_the_line) }
 
 pub returns-in_ok-cases_of-in-Dates : goal.returns-in_ok-cases_of-in-Dates
 returns-in_ok-cases_of-in-Dates c =
@@ -88,12 +82,11 @@ returns-in_ok-cases_of-in-Dates c =
     let ds = days_of c.read_setting.new.dates in
     let made = c.as_slice-in-Dates.result.now in
     let cases = c.in_ok-cases_of-in-Dates.field-0.list in
-    let line : accepted (dates ds) ≡ read_setting c.args.line.now = ap (λ x. accepted (opening_for x ds)) (sym c.in-Dates.is) ∙ c.in_ok-low.ensures.answers_the_line in
     let d = dated (map month_day c.as_slice.result.now) ds made (vec_items c.fill_dates.new.dates) c.as_slice.ensures.its_dates c.as_slice-in-Dates.ensures.value
     c.in_ok-fill_dates-in-Dates.ensures.tells_dates c.in_ok-fill_dates-in-Dates.ensures.holds_the_dates in
     let x = held (fair (length made)) (records cases) made CaseCount c.in_ok-cases_of-in-Dates.ensures.checks_the_list in
     record {
       settles = ap Ok c.list-in-Dates.ensures.holds_the_page
           ∙ dates_played n ls ds _ d.all (ap fair (sym d.long) ∙ x.0) (dates_mean (records cases) ∙ ap dates_meaning (ap (map date_numbers) x.1 ∙ d.same))
-          ∙ ap (λ a. sets a n ls) line;
+          ∙ asked n ls _ _ (days_of c.read_setting.new.dates) c.args.line.now c.in-Dates.is c.in_ok-low.ensures.answers_the_line;
     }
