@@ -4,9 +4,9 @@ ghost use Rattle.model.specs.Verdict.{verdict_of};
 ghost use Rattle.text.specs.Lines.{read_call};
 ghost use Rattle.listing.specs.Findings.{header_of, quantities_at, outcome_of};
 ghost use Rattle.listing.specs.Listing.{answered};
-ghost use Rattle.listing.specs.Readings.{outcome_in};
+ghost use Rattle.listing.specs.Readings.{outcome_in, entry_in};
 
-use crate::outcomes::{Header, Outcome, Quantities};
+use crate::outcomes::{Entry, Header, Outcome, Quantities};
 use arrayvec::ArrayVec;
 use model::questions::Model;
 use model::verdict::{Verdict, verdict_on};
@@ -65,4 +65,12 @@ pub fn answer_line<M: Model>(model: &M, line: &[u8]) -> Outcome
         Ok(Call::Verdict) => finding_for(model),
         Err(fault) => Outcome::Refusal(fault.into()),
     }
+}
+
+// The entry of a line that is not blank.
+pub fn entry_for<M: Model>(model: &M, number: u32, line: &[u8]) -> Entry
+    ensures lists_the_line { entry_in result ≡ record { number = number; outcome = answered (M.meaning model.now) (read_call line.now) } }
+{
+    let outcome = answer_line(model, line);
+    Entry { number, outcome }
 }

@@ -5,7 +5,7 @@ ghost use Rattle.listing.specs.Listing.{played, refusing, written};
 ghost use Rattle.listing.specs.Readings.{refused_in};
 ghost use Rattle.listing.specs.Sheets.{page_of};
 
-use crate::findings::{answer_line, header_for};
+use crate::findings::{entry_for, header_for};
 use crate::outcomes::{Entry, Outcome, Refused};
 use crate::sheets::Sheet;
 use crate::texts::Lines;
@@ -34,8 +34,7 @@ impl Sheet {
         self.header = Some(header_for(model));
         self.entries.clear();
         for (number, line) in lines {
-            let outcome = answer_line(model, line);
-            self.entries.push_reserved(Entry { number, outcome });
+            self.entries.push_reserved(entry_for(model, number, line));
         }
     }
 

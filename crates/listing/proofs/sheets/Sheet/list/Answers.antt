@@ -18,7 +18,7 @@ loop-number-preserved g c =
       tt,
       turned m it.number c.next.new.self.number (lines_left it.rest) _ (map entry_in before) (map entry_in (vec_items c.push_reserved.new.self)) _ s.first s.next
           (ap (map entry_in) c.push_reserved.ensures.items ∙ map-append entry_in before _)
-          (λ i. record { number = c.in-Some.number; outcome = c.answer_line-outcome.ensures.answers_the_line i })
+          c.entry_for.ensures.lists_the_line
           ∙ c.loop-number.invariant.2,
       omega (arith, s.less, c.loop-number.invariant.3, c.push_reserved.ensures.len),
       c.loop-number.invariant.4,
@@ -31,4 +31,4 @@ returns g c =
     let none = entries_none m it.number (lines_left it.rest) c.in-None.ensures.steps in
     let es = map entry_in (vec_items c.loop-number.self.entries) in
     let all : es ≡ entries_from m c.args.lines.number (lines_left c.args.lines.rest) = sym (append-nil es) ∙ ap (λ (l : List Entry). es ++ l) (sym none) ∙ c.loop-number.invariant.2 in
-    record { holds_the_page = λ i. record { header = (c.loop-number.invariant.4 ∙ ap Some c.header_for.ensures.states_the_sizes) i; entries = all i } }
+    record { holds_the_page = λ i. record { header = c.loop-number.invariant.4 i; entries = all i } }

@@ -1,4 +1,5 @@
-use Rattle.std.proofs.Common.{◌≡◌, ◌+◌, ◌≤◌, ◌++◌, map, vec_items, vec_len}
+use Rattle.std.proofs.Common.{◌≡◌, ◌+◌, ◌≤◌, ◌++◌, Some, map, vec_items, vec_len}
+use Rattle.listing.specs.Findings.{header_of}
 use Rattle.listing.specs.Lines.{lines_left, size_left}
 use Rattle.listing.specs.Listing.{entries_from}
 use Rattle.listing.specs.Readings.{entry_in}
@@ -12,4 +13,4 @@ invariant-loop-number g l =
     × (map entry_in (vec_items l.self.entries) ++ entries_from (g.M.Model.meaning l.model) l.number-iterator.number (lines_left l.number-iterator.rest)
     ≡ entries_from (g.M.Model.meaning l.model) l.fn.lines.number (lines_left l.fn.lines.rest))
     × (vec_len l.self.entries + size_left l.number-iterator.rest ≤ 16385)
-    × (l.self.header ≡ l.initial.self.header)
+    × (l.self.header ≡ Some (header_of (g.M.Model.meaning l.model)))
