@@ -8,17 +8,12 @@ use Rattle.text.specs.declared.dates.MonthDay.{MonthDay}
 use Rattle.text.specs.Dates.{month_day}
 
 module _ (days : List MonthDay) (i : ℕ) where
-  pub dates_more : (d : MonthDay) → i < length days → is_date (month_day (get_or days i d)) ≡ true → are_dates (map month_day (drop i days)) ≡ are_dates (map month_day (drop (i + 1) days))
+  -- what the date at hand decides
+  pub dates_at : (d : MonthDay) (b : Bool) → i < length days → is_date (month_day (get_or days i d)) ≡ b → are_dates (map month_day (drop i days)) ≡ (b && are_dates (map month_day (drop (i + 1) days)))
   unfolding are_dates
-  dates_more d h e =
+  dates_at d b h e =
       ap (λ (l : List MonthDay). are_dates (map month_day l)) (drop_more days i d h)
-      ∙ ap (λ (b : Bool). b && are_dates (map month_day (drop (i + 1) days))) e
-
-  pub dates_bad : (d : MonthDay) → i < length days → is_date (month_day (get_or days i d)) ≡ false → are_dates (map month_day (drop i days)) ≡ false
-  unfolding are_dates
-  dates_bad d h e =
-      ap (λ (l : List MonthDay). are_dates (map month_day l)) (drop_more days i d h)
-      ∙ ap (λ (b : Bool). b && are_dates (map month_day (drop (i + 1) days))) e
+      ∙ ap (λ (t : Bool). t && are_dates (map month_day (drop (i + 1) days))) e
 
   pub dates_end : length days ≤ i → are_dates (map month_day (drop i days)) ≡ true
   unfolding are_dates
