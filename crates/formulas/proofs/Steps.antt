@@ -1,5 +1,5 @@
 -- Steps of the readers of formulas.
-use Rattle.std.proofs.Common.{◌≡◌, ℕ, zero, suc, ◌-◌, ◌<◌, ◌≤◌, ◌⊎◌, List, ◌∷◌, length, Some, None, Option, Result, sym, refl, ap, ◌∙◌, subst, ⊎_elim, arith, Bor, MatchResult}
+use Rattle.std.proofs.Common.{◌≡◌, ℕ, zero, suc, ◌-◌, ◌<◌, ◌≤◌, ◌⊎◌, List, ◌∷◌, length, Some, None, Option, Result, sym, refl, ap, ◌∙◌, ⊎_elim, arith, Bor, MatchResult}
 use Rattle.lexer.specs.declared.tokens.Sign.{Sign}
 use Rattle.lexer.specs.declared.tokens.Sign.TheVariants as mark
 use Rattle.lexer.specs.declared.tokens.Lexeme.{Lexeme}
@@ -9,16 +9,16 @@ use Rattle.std.proofs.lemmas.Result.{MatchResult-weaker}
 use Rattle.theory.specs.declared.node.Node.{Node}
 use Rattle.formulas.specs.declared.faults.FormulaFault.{FormulaFault}
 use Rattle.lexer.specs.Faults.{Fault}
-use Rattle.lexer.specs.Tokens.{sign, bad, Placed, pieces_from}
+use Rattle.lexer.specs.Tokens.{sign, bad, Placed}
 use Rattle.formulas.specs.Faults.{of_formula}
-use Rattle.lexer.specs.Steps.{Fine, piece_of, unless_end, Next, Onward}
-use Rattle.formulas.specs.Steps.{Gave, Wrote, Keeps}
+use Rattle.lexer.specs.Steps.{piece_of, unless_end, Next}
+use Rattle.formulas.specs.Steps.{Wrote, Keeps}
 use Rattle.formulas.specs.Reading.{a_number, the_sign, Outcome, fault, parsed, Reader, bind, at, perhaps}
 use Rattle.formulas.specs.Readers.{value_in, chain, joined, sentence_of, term, term_with, term_in, inner}
 use Rattle.formulas.specs.Sentences.{Sentence, both, either}
 use Rattle.formulas.specs.Stores.{Store, write, put, last, node, or_nodes}
 use Rattle.formulas.proofs.Keep.{keeps_refl, keeps_trans}
-use Rattle.formulas.proofs.Chains.{Chained, Going, chain_stop, chain_fault, chain_more, chain_breaks, pieces_some}
+use Rattle.formulas.proofs.Chains.{Chained, Going, chain_fault, chain_more, chain_breaks, chain_ends, sign_some, fault_some}
 
 pub inner_none : (n : ℕ) → n ≡ 0 → inner n ≡ None
 inner_none zero e = refl
@@ -33,97 +33,73 @@ unfolding term
 term_is zero ps = refl
 term_is (suc n) ps = refl
 
-module _ (line : List ℕ) where
-  -- the formula read, by name
-  pub wrote : (o : Outcome Sentence) (f : Sentence) {from after : ℕ} {s t : Store} → o ≡ parsed f (pieces_from line after) → t ≡ write f s → from ≤ after → length (pieces_from line after) ≤ length (pieces_from line from) → after ≤ length line
-      → Wrote o line from after s t
-  wrote o f {from} {after} {s} {t} e w h k l =
-      let same = ap sentence_of e in
+-- the formula read, by name
+pub wrote : (o : Outcome Sentence) (f : Sentence) {ps rest : List Placed} {s t : Store} → o ≡ parsed f rest → t ≡ write f s → length rest ≤ length ps → Wrote o ps rest s t
+wrote o f {ps} {rest} {s} {t} e w h =
+    let same = ap sentence_of e in
+    record { is = e ∙ ap (λ g. parsed g rest) (sym same); written = w ∙ ap (λ g. write g s) (sym same); fewer = h }
+
+-- what another function read in the place of this one, a piece later
+pub handed : (o o' : Outcome Sentence) (ps mid rest : List Placed) (r : Result (Unit {0}) FormulaFault) (s t : Store) → o ≡ o' → length mid < length ps
+    → MatchResult r (λ _. Wrote o' mid rest s t) (λ e. o' ≡ fault (of_formula e)) → MatchResult r (λ _. Wrote o ps rest s t) (λ e. o ≡ fault (of_formula e))
+handed o o' ps mid rest r s t e on h =
+    MatchResult-weaker r h (λ _ w. let fewer = w.fewer in wrote o (sentence_of o') (e ∙ w.is) w.written (omega arith)) (λ y f. e ∙ f)
+
+pub term_first : (n : ℕ) (ps : List Placed) (x : Lexeme) (rest : List Placed) (t : Token) → Next ps x rest → x.token ≡ t
+    → term n ps ≡ term_in (inner n) x.column (piece_of t) (unless_end t rest)
+term_first n ps x rest t h e =
+    term_is n ps ∙ ap (term_with (inner n)) h.first ∙ ap (λ k. term_in (inner n) x.column (piece_of k) (unless_end k rest)) e
+
+pub term_bad : (n : ℕ) (k c : ℕ) (ps rest : List Placed) → ps ≡ record { piece = bad k; column = c } ∷ rest → term n ps ≡ at k c
+term_bad n k c ps rest e = term_is n ps ∙ ap (term_with (inner n)) e
+
+module _ (s : Sign) (join : Sentence → Sentence → Sentence) (operand : Reader Sentence) where
+  pub going_start : (from : List Placed) (start : Store) → Going s join operand from start from start
+  going_start from start =
       record {
-        is = e ∙ ap (λ g. parsed g (pieces_from line after)) (sym same);
-        written = w ∙ ap (λ g. write g s) (sym same);
-        onward = h;
-        fewer = k;
-        within = l;
+        chained = λ f before e. record { formula = f; fuel = length from; enough = omega arith; so_far = refl; written = e };
+        fewer = omega arith;
+        keeps = keeps_refl start;
       }
 
-  -- what was read from a later index on, as part of what is read from an earlier one
-  pub wrote_from : (o o' : Outcome Sentence) (from mid after : ℕ) (s t : Store) → o ≡ o' → Onward line from mid → Wrote o' line mid after s t → Wrote o line from after s t
-  wrote_from o o' from mid after s t e h w =
-      let more = h.bytes in let fewer = h.pieces in
-      wrote o (sentence_of o') (e ∙ w.is) w.written (omega arith) (omega arith) w.within
-
-  -- what another function read in the place of this one
-  pub handed : (o o' : Outcome Sentence) (from mid : ℕ) (r : Result ℕ FormulaFault) (s t : Store) → o ≡ o' → Onward line from mid
-      → MatchResult r (λ at. Wrote o' line mid at s t) (λ e. o' ≡ fault (of_formula e)) → MatchResult r (λ at. Wrote o line from at s t) (λ e. o ≡ fault (of_formula e))
-  handed o o' from mid r s t e on h = MatchResult-weaker r h (λ at w. wrote_from o o' from mid at s t e on w) (λ y f. e ∙ f)
-
-  pub term_first : (n from : ℕ) (x : Lexeme) (t : Token) → Next line from x → x.token ≡ t
-      → term n (pieces_from line from) ≡ term_in (inner n) x.column (piece_of t) (unless_end t (pieces_from line x.after))
-  term_first n from x t h e =
-      term_is n (pieces_from line from) ∙ ap (term_with (inner n)) h.first
-      ∙ ap (λ k. term_in (inner n) x.column (piece_of k) (unless_end k (pieces_from line x.after))) e
-
-  pub term_bad : (n from : ℕ) (k c : ℕ) (rest : List Placed) → pieces_from line from ≡ record { piece = bad k; column = c } ∷ rest → term n (pieces_from line from) ≡ at k c
-  term_bad n from k c rest e = term_is n (pieces_from line from) ∙ ap (term_with (inner n)) e
-
-  module _ (s : Sign) (join : Sentence → Sentence → Sentence) (operand : Reader Sentence) where
-    pub going_start : (from : ℕ) (start : Store) → from ≤ length line → Going s join operand line from start from start
-    going_start from start h =
+  module _ {from : List Placed} {start : Store} {rest : List Placed} {mid : Store} (so_far : Going s join operand from start rest mid) where
+    pub going_more : (c : ℕ) (after next : List Placed) (mid' end' : Store) → perhaps s rest ≡ parsed (Some c) after → length after < length rest → Wrote (operand after) after next mid mid'
+        → ((f : Sentence) (before : Store) → mid ≡ write f before → end' ≡ write (join f (sentence_of (operand after))) before) → Keeps mid mid' → Keeps mid' end'
+        → Going s join operand from start next end'
+    going_more c after next mid' end' g less w joins k k' =
+        let far = so_far.fewer in let fewer = w.fewer in
         record {
-          chained = λ f before e. record { formula = f; fuel = length (pieces_from line from); enough = omega arith; so_far = refl; written = e };
-          onward = omega arith;
+          chained = λ f before is.
+              let was = so_far.chained f before is in
+              let room = was.enough in
+              record {
+                formula = join was.formula (sentence_of (operand after));
+                fuel = was.fuel - 1;
+                enough = omega arith;
+                so_far = was.so_far ∙ chain_more s join operand was.fuel was.formula (sentence_of (operand after)) rest after next c (omega arith) g w.is;
+                written = joins was.formula before was.written;
+              };
           fewer = omega arith;
-          within = h;
-          keeps = keeps_refl start;
+          keeps = keeps_trans start mid end' so_far.keeps (keeps_trans mid mid' end' k k');
         }
 
-    module _ {from : ℕ} {start : Store} {at' : ℕ} {mid : Store} (so_far : Going s join operand line from start at' mid) where
-      pub going_more : (c after next : ℕ) (mid' end' : Store) → Gave (perhaps s (pieces_from line at')) (Some c) line at' after → Wrote (operand (pieces_from line after)) line after next mid mid'
-          → ((f : Sentence) (before : Store) → mid ≡ write f before → end' ≡ write (join f (sentence_of (operand (pieces_from line after)))) before) → Keeps mid mid' → Keeps mid' end'
-          → Going s join operand line from start next end'
-      going_more c after next mid' end' g w joins k k' =
-          let far = so_far.onward in let less = so_far.fewer in
-          let a = g.onward.bytes in let b = g.onward.pieces in
-          let d = w.onward in let e = w.fewer in
-          record {
-            chained = λ f before is.
-                let was = so_far.chained f before is in
-                let some = pieces_some line at' in
-                let room = was.enough in
-                record {
-                  formula = join was.formula (sentence_of (operand (pieces_from line after)));
-                  fuel = was.fuel - 1;
-                  enough = omega arith;
-                  so_far = was.so_far ∙ chain_more s join operand was.fuel was.formula (sentence_of (operand (pieces_from line after))) (pieces_from line at') (pieces_from line after) (pieces_from line next) c (omega arith) g.is w.is;
-                  written = joins was.formula before was.written;
-                };
-            onward = omega arith;
-            fewer = omega arith;
-            within = w.within;
-            keeps = keeps_trans start mid end' so_far.keeps (keeps_trans mid mid' end' k k');
-          }
+    module _ (ps : List Placed) (before : Store) (w : Wrote (operand ps) ps from before start) where
+      abbrev was : Chained s join operand (sentence_of (operand ps)) from before rest mid
+      was = so_far.chained (sentence_of (operand ps)) before w.written
 
-      module _ (first : ℕ) (before : Store) (w : Wrote (operand (pieces_from line first)) line first from before start) where
-        abbrev was : Chained s join operand line (sentence_of (operand (pieces_from line first))) from before at' mid
-        was = so_far.chained (sentence_of (operand (pieces_from line first))) before w.written
+      begun : joined s join operand ps ≡ chain s join operand was.fuel was.formula rest
+      begun = ap (λ o. bind o (λ f ps. chain s join operand (length ps) f ps)) w.is ∙ was.so_far
 
-        begun : joined s join operand (pieces_from line first) ≡ chain s join operand was.fuel was.formula (pieces_from line at')
-        begun = ap (λ o. bind o (λ f rest. chain s join operand (length rest) f rest)) w.is ∙ was.so_far
+      pub going_end : (last : List Placed) → perhaps s rest ≡ parsed None last → last ≡ rest → Wrote (joined s join operand ps) ps last before mid
+      going_end last e same =
+          wrote (joined s join operand ps) was.formula (begun ∙ chain_ends s join operand was.fuel was.formula rest was.enough (e ∙ ap (parsed None) same) ∙ ap (parsed was.formula) (sym same)) was.written
+          (omega (arith, w.fewer, so_far.fewer, ap length same))
 
-        fueled : 0 < was.fuel
-        fueled = omega (arith, pieces_some line at', was.enough)
+      pub going_fault : (x : Fault) → perhaps s rest ≡ fault x → joined s join operand ps ≡ fault x
+      going_fault x e = begun ∙ chain_fault s join operand was.fuel was.formula rest x (omega (arith, fault_some s rest x e, was.enough)) e
 
-        pub going_end : perhaps s (pieces_from line at') ≡ parsed None (pieces_from line at') → Wrote (joined s join operand (pieces_from line first)) line first at' before mid
-        going_end e =
-            wrote (joined s join operand (pieces_from line first)) was.formula (begun ∙ chain_stop s join operand was.fuel was.formula (pieces_from line at') fueled e) was.written
-            (omega (arith, w.onward, so_far.onward)) (omega (arith, w.fewer, so_far.fewer)) so_far.within
-
-        pub going_fault : (x : Fault) → perhaps s (pieces_from line at') ≡ fault x → joined s join operand (pieces_from line first) ≡ fault x
-        going_fault x e = begun ∙ chain_fault s join operand was.fuel was.formula (pieces_from line at') x fueled e
-
-        pub going_breaks : (c after : ℕ) (x : Fault) → perhaps s (pieces_from line at') ≡ parsed (Some c) (pieces_from line after) → operand (pieces_from line after) ≡ fault x → joined s join operand (pieces_from line first) ≡ fault x
-        going_breaks c after x e d = begun ∙ chain_breaks s join operand was.fuel was.formula (pieces_from line at') (pieces_from line after) c x fueled e d
+      pub going_breaks : (c : ℕ) (after : List Placed) (x : Fault) → perhaps s rest ≡ parsed (Some c) after → operand after ≡ fault x → joined s join operand ps ≡ fault x
+      going_breaks c after x e d = begun ∙ chain_breaks s join operand was.fuel was.formula rest after c x (omega (arith, sign_some s rest after c e, was.enough)) e d
 
 pub both_written : (f g : Sentence) (before mid mid' end' : Store) (a b : ℕ) → a ≡ last mid → b ≡ last mid' → mid' ≡ write g mid → end' ≡ put mid' (node 4 a b 0) → mid ≡ write f before → end' ≡ write (both f g) before
 both_written f g before mid mid' end' a b ea eb w e m =
@@ -138,11 +114,11 @@ either_written f g before mid mid' end' a ea w e m =
 pub over_written : (f : Sentence) (before mid end' : Store) (a : ℕ) (k : ℕ → Node) → mid ≡ write f before → a ≡ last mid → end' ≡ put mid (k a) → end' ≡ put (write f before) (k (last (write f before)))
 over_written f before mid end' a k w e p = p ∙ ap (λ n. put mid (k n)) e ∙ ap (λ t. put t (k (last t))) w
 
-pub onward_at : (line : List ℕ) (from : ℕ) (x : Lexeme) (s : Sign) → Next line from x → x.token ≡ token.Sign s → Onward line from x.after
-onward_at line from x s n e = let P : Token → Type 0 = λ k. Fine k line from x.after in subst P e n.fine
+pub fewer_sign : (ps : List Placed) (x : Lexeme) (rest : List Placed) (s : Sign) → Next ps x rest → x.token ≡ token.Sign s → length rest < length ps
+fewer_sign ps x rest s n e = omega (arith, ap length n.first, ap (λ k. length (unless_end k rest)) e)
 
-pub onward_word : (line : List ℕ) (from : ℕ) (x : Lexeme) (w : Bor (List ℕ)) → Next line from x → x.token ≡ token.Word w → Onward line from x.after
-onward_word line from x w n e = let P : Token → Type 0 = λ k. Fine k line from x.after in subst P e n.fine
+pub fewer_word : (ps : List Placed) (x : Lexeme) (rest : List Placed) (w : Bor (List ℕ)) → Next ps x rest → x.token ≡ token.Word w → length rest < length ps
+fewer_word ps x rest w n e = omega (arith, ap length n.first, ap (λ k. length (unless_end k rest)) e)
 
 -- `V p.q`, up to where it goes wrong
 module _ (i : Option (Reader Sentence)) (c : ℕ) (ps : List Placed) where

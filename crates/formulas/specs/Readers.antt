@@ -9,12 +9,12 @@ use Rattle.formulas.specs.declared.words.Keyword.TheVariants as key
 use Rattle.formulas.specs.Reading.{Outcome, fault, parsed, Reader, bind, at, a_number, perhaps, the_sign}
 use Rattle.formulas.specs.Sentences.{Sentence, truth, fact, equals, neg, both, either, knows, values}
 
--- the word that a run of letters is
-unfoldable pub keyword : List ℕ → Keyword
+-- the word that a run of letters is, if it is one
+unfoldable pub keyword : List ℕ → Option Keyword
 keyword w =
-    cond (bytes_eq w (codes "true")) key.True
-    (cond (bytes_eq w (codes "f")) key.Fact
-    (cond (bytes_eq w (codes "q")) key.Quantity key.Other))
+    cond (bytes_eq w (codes "true")) (Some key.True)
+    (cond (bytes_eq w (codes "f")) (Some key.Fact)
+    (cond (bytes_eq w (codes "q")) (Some key.Quantity) None))
 
 -- operands joined by the sign s, grouping to the left: x is what was read so far, and at most n more operands follow
 unfoldable pub chain : Sign → (Sentence → Sentence → Sentence) → Reader Sentence → ℕ → Sentence → Reader Sentence
@@ -39,11 +39,11 @@ deeper None c k = at 15 c
 deeper (Some term) c k = k term
 
 -- what follows a word at column c
-abbrev pub word_in : ℕ → Keyword → Reader Sentence
-word_in c key.True ps = parsed truth ps
-word_in c key.Fact ps = bind (a_number ps) (λ n. parsed (fact n))
-word_in c key.Quantity ps = bind (a_number ps) (λ q r. bind (the_sign Equals r) (λ _ r. bind (a_number r) (λ v. parsed (equals q v))))
-word_in c key.Other ps = at 14 c
+abbrev pub word_in : ℕ → Option Keyword → Reader Sentence
+word_in c (Some key.True) ps = parsed truth ps
+word_in c (Some key.Fact) ps = bind (a_number ps) (λ n. parsed (fact n))
+word_in c (Some key.Quantity) ps = bind (a_number ps) (λ q r. bind (the_sign Equals r) (λ _ r. bind (a_number r) (λ v. parsed (equals q v))))
+word_in c None ps = at 14 c
 
 -- what follows `V p.q`: a condition, if there is a slash, at its column
 abbrev pub value_in : Option (Reader Sentence) → ℕ → ℕ → Option ℕ → Reader Sentence

@@ -5,8 +5,8 @@ use theory::node::Node;
 
 pub mod writing;
 
-// At most 4,096 nodes; `full` once one found no place.
-#[derive(Drop)]
+// At most 4,096 nodes. `full` says that one found no place; a line is read on then, since that is its fault only where nothing else is wrong with it.
+#[derive(Debug, Drop, PartialEq, Eq)]
 pub struct NodeList {
     items: Vec<Node>,
     full: bool,

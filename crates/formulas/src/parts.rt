@@ -1,88 +1,79 @@
-// Parts of a line that formulas and lines share, each read from an index on.
+// Parts of a line that formulas and lines share, each read where the cursor stands.
 ghost use Rattle.std.specs.Prelude.{◌≡◌, ℕ, [], Some, None, MatchOption, MatchResult};
-ghost use Rattle.lexer.specs.Tokens.{pieces_from};
 ghost use Rattle.lexer.specs.Faults.{of_token};
 ghost use Rattle.formulas.specs.Faults.{of_formula};
 ghost use Rattle.formulas.specs.Reading.{a_number, number_if, the_end, perhaps, the_sign, parsed};
-ghost use Rattle.formulas.specs.Steps.{Gave, Failed};
+ghost use Rattle.formulas.specs.Steps.{Gave, Looked, Failed};
 
 use crate::faults::FormulaFault;
-use lexer::tokens::{Lexeme, Sign, Token, TokenFault, next, value_of};
+use lexer::cursor::Cursor;
+use lexer::tokens::{Sign, Token, TokenFault};
 
-// A number, and the index after it.
-pub fn number(line: &[u8], from: usize) -> Result<(u16, usize), FormulaFault>
-    ensures reads_a_number { MatchResult result (λ x. Gave (a_number (pieces_from line.now from)) x.0 line.now from x.1) (λ e. Failed (a_number (pieces_from line.now from)) (of_formula e)) }
+// A number.
+#[tactic(auto, unfolding(crate::specs::Reading::a_number))]
+pub fn number(cursor: &mut Cursor<'_>) -> Result<u16, FormulaFault>
+    ensures reads_a_number { MatchResult result (λ n. Gave (a_number cursor.old) n cursor.old cursor.new) (λ e. Failed (a_number cursor.old) (of_formula e)) }
 {
-    let x = next(line, from)?;
+    let x = cursor.next_token()?;
     match x.token {
-        Token::Number(digits) => match value_of(digits) {
-            Some(n) => Ok((n, x.after)),
-            None => unreachable(),
-        },
+        Token::Number { value, .. } => Ok(value),
         Token::Word(_) | Token::Sign(_) | Token::End => Err(FormulaFault::Place(x.column)),
     }
 }
 
-// A number, and the index after it; none at the line's end.
-pub fn number_if(line: &[u8], from: usize) -> Result<Option<(u16, usize)>, FormulaFault>
-    ensures reads_a_number_or_the_end { MatchResult result (λ o. MatchOption o (number_if (pieces_from line.now from) ≡ parsed None []) (λ x. Gave (number_if (pieces_from line.now from)) (Some x.0) line.now from x.1)) (λ e. Failed (number_if (pieces_from line.now from)) (of_formula e)) }
+// A number; none at the line's end.
+#[tactic(auto, unfolding(crate::specs::Reading::number_if))]
+pub fn number_if(cursor: &mut Cursor<'_>) -> Result<Option<u16>, FormulaFault>
+    ensures reads_a_number_or_the_end { MatchResult result (λ o. MatchOption o (number_if cursor.old ≡ parsed None []) (λ n. Gave (number_if cursor.old) (Some n) cursor.old cursor.new)) (λ e. Failed (number_if cursor.old) (of_formula e)) }
 {
-    let x = next(line, from)?;
+    let x = cursor.next_token()?;
     match x.token {
-        Token::Number(digits) => match value_of(digits) {
-            Some(n) => Ok(Some((n, x.after))),
-            None => unreachable(),
-        },
+        Token::Number { value, .. } => Ok(Some(value)),
         Token::End => Ok(None),
         Token::Word(_) | Token::Sign(_) => Err(FormulaFault::Place(x.column)),
     }
 }
 
 // That nothing more stands on the line.
-pub fn end(line: &[u8], from: usize) -> Result<(), FormulaFault>
-    ensures reads_the_end { MatchResult result (λ _. the_end (pieces_from line.now from) ≡ parsed tt []) (λ e. Failed (the_end (pieces_from line.now from)) (of_formula e)) }
+#[tactic(auto, unfolding(crate::specs::Reading::the_end))]
+pub fn end(cursor: &mut Cursor<'_>) -> Result<(), FormulaFault>
+    ensures reads_the_end { MatchResult result (λ _. the_end cursor.old ≡ parsed tt []) (λ e. Failed (the_end cursor.old) (of_formula e)) }
 {
-    let x = next(line, from)?;
+    let x = cursor.next_token()?;
     match x.token {
         Token::End => Ok(()),
-        Token::Number(_) | Token::Word(_) | Token::Sign(_) => Err(FormulaFault::Place(x.column)),
+        Token::Number { .. } | Token::Word(_) | Token::Sign(_) => {
+            Err(FormulaFault::Place(x.column))
+        }
     }
 }
 
-// The column of the sign, and the index after it, if it is next.
-pub(crate) fn perhaps_sign(
-    line: &[u8],
-    from: usize,
-    sign: Sign,
-) -> Result<Option<(usize, usize)>, TokenFault>
-    ensures { MatchResult result (λ o. MatchOption o (perhaps sign (pieces_from line.now from) ≡ parsed None (pieces_from line.now from)) (λ x. Gave (perhaps sign (pieces_from line.now from)) (Some x.0) line.now from x.1)) (λ e. Failed (perhaps sign (pieces_from line.now from)) (of_token e)) }
+// The column of the sign, which is passed, if it is next.
+#[tactic(auto, unfolding(crate::specs::Reading::perhaps))]
+pub(crate) fn perhaps_sign(cursor: &mut Cursor<'_>, sign: Sign) -> Result<Option<usize>, TokenFault>
+    ensures { MatchResult result (λ o. Looked (perhaps sign cursor.old) o cursor.old cursor.new) (λ e. Failed (perhaps sign cursor.old) (of_token e)) }
 {
-    let x = next(line, from)?;
+    let mut ahead = cursor.fork();
+    let x = ahead.next_token()?;
     match x.token {
-        Token::Sign(s) => {
-            if s == sign {
-                Ok(Some((x.column, x.after)))
-            } else {
-                Ok(None)
-            }
+        Token::Sign(s) if s == sign => {
+            *cursor = ahead;
+            Ok(Some(x.column))
         }
-        Token::Number(_) | Token::Word(_) | Token::End => Ok(None),
+        Token::Number { .. } | Token::Word(_) | Token::Sign(_) | Token::End => Ok(None),
     }
 }
 
-// The sign: the index after it.
-pub(crate) fn expect_sign(line: &[u8], from: usize, sign: Sign) -> Result<usize, FormulaFault>
-    ensures { MatchResult result (λ after. ((c : ℕ) × Gave (the_sign sign (pieces_from line.now from)) c line.now from after)) (λ e. Failed (the_sign sign (pieces_from line.now from)) (of_formula e)) }
+// The sign, which is passed.
+#[tactic(auto, unfolding(crate::specs::Reading::the_sign))]
+pub(crate) fn expect_sign(cursor: &mut Cursor<'_>, sign: Sign) -> Result<(), FormulaFault>
+    ensures { MatchResult result (λ _. (c : ℕ) × Gave (the_sign sign cursor.old) c cursor.old cursor.new) (λ e. Failed (the_sign sign cursor.old) (of_formula e)) }
 {
-    let x = next(line, from)?;
+    let x = cursor.next_token()?;
     match x.token {
-        Token::Sign(s) => {
-            if s == sign {
-                Ok(x.after)
-            } else {
-                Err(FormulaFault::Place(x.column))
-            }
+        Token::Sign(s) if s == sign => Ok(()),
+        Token::Number { .. } | Token::Word(_) | Token::Sign(_) | Token::End => {
+            Err(FormulaFault::Place(x.column))
         }
-        Token::Number(_) | Token::Word(_) | Token::End => Err(FormulaFault::Place(x.column)),
     }
 }

@@ -1,5 +1,5 @@
 // The readers of formulas, which call one another. Each opens no more levels than it is given, and appends the nodes of what it reads.
-ghost use Rattle.std.specs.Prelude.{◌≤◌, length};
+ghost use Rattle.std.specs.Prelude.{◌≡◌, ◌+◌, MatchResult};
 ghost use Rattle.lexer.specs.declared.tokens.Sign.TheVariants.{Not, Open, Knows, Value};
 ghost use Rattle.lexer.specs.Tokens.{sign};
 ghost use Rattle.formulas.specs.Readers.{keyword, disjunction, conjunction, term, term_in, word_in, inner};
@@ -8,69 +8,70 @@ ghost use Rattle.formulas.specs.Stores.{store_of};
 
 use crate::faults::FormulaFault;
 use crate::nodes::NodeList;
+use crate::nodes::writing::node;
 use crate::parts::{expect_sign, number, perhaps_sign};
 use crate::words::{Keyword, keyword_of};
-use lexer::tokens::{Sign, Token, next};
-use theory::node::Node;
+use lexer::cursor::Cursor;
+use lexer::tokens::{Sign, Token};
+
+// One level down, if there is one; else the token at the column opens a level too many.
+fn deeper(levels: u8, column: usize) -> Result<u8, FormulaFault>
+    ensures { MatchResult result (λ n. levels ≡ n + 1) (λ e. (levels ≡ 0) × (e ≡ FormulaFault.Level column)) }
+{
+    levels.checked_sub(1).ok_or(FormulaFault::Level(column))
+}
 
 // Conjunctions joined by `|`.
 #[cycle(sentence)]
 pub(crate) fn disjunction(
-    line: &[u8],
-    from: usize,
+    cursor: &mut Cursor<'_>,
     levels: u8,
     nodes: &mut NodeList,
-) -> Result<usize, FormulaFault>
-    ensures reads { Reads (disjunction levels) line.now from result (store_of nodes.old) (store_of nodes.new) }
+) -> Result<(), FormulaFault>
+    ensures reads { Reads (disjunction levels) cursor.old cursor.new result (store_of nodes.old) (store_of nodes.new) }
     ensures keeps { Keeps (store_of nodes.old) (store_of nodes.new) }
 {
-    let mut at = conjunction(line, from, levels, nodes)?;
-    while let Some((_, after)) = perhaps_sign(line, at, Sign::Or)? {
+    conjunction(cursor, levels, nodes)?;
+    while let Some(_column) = perhaps_sign(cursor, Sign::Or)? {
         let a = nodes.last();
-        at = conjunction(line, after, levels, nodes)?;
+        conjunction(cursor, levels, nodes)?;
         nodes.put_or(a);
     }
-    Ok(at)
+    Ok(())
 }
 
 // Terms joined by `&`.
 #[cycle(sentence)]
 fn conjunction(
-    line: &[u8],
-    from: usize,
+    cursor: &mut Cursor<'_>,
     levels: u8,
     nodes: &mut NodeList,
-) -> Result<usize, FormulaFault>
-    ensures reads { Reads (conjunction levels) line.now from result (store_of nodes.old) (store_of nodes.new) }
+) -> Result<(), FormulaFault>
+    ensures reads { Reads (conjunction levels) cursor.old cursor.new result (store_of nodes.old) (store_of nodes.new) }
     ensures keeps { Keeps (store_of nodes.old) (store_of nodes.new) }
 {
-    let mut at = term(line, from, levels, nodes)?;
-    while let Some((_, after)) = perhaps_sign(line, at, Sign::And)? {
+    term(cursor, levels, nodes)?;
+    while let Some(_column) = perhaps_sign(cursor, Sign::And)? {
         let a = nodes.last();
-        at = term(line, after, levels, nodes)?;
+        term(cursor, levels, nodes)?;
         let b = nodes.last();
-        nodes.put(Node {
-            kind: 4,
-            a,
-            b,
-            c: 0,
-        });
+        nodes.put(node(4, a, b, 0));
     }
-    Ok(at)
+    Ok(())
 }
 
 #[cycle(sentence)]
-fn term(line: &[u8], from: usize, levels: u8, nodes: &mut NodeList) -> Result<usize, FormulaFault>
-    ensures reads { Reads (term levels) line.now from result (store_of nodes.old) (store_of nodes.new) }
+fn term(cursor: &mut Cursor<'_>, levels: u8, nodes: &mut NodeList) -> Result<(), FormulaFault>
+    ensures reads { Reads (term levels) cursor.old cursor.new result (store_of nodes.old) (store_of nodes.new) }
     ensures keeps { Keeps (store_of nodes.old) (store_of nodes.new) }
 {
-    let x = next(line, from)?;
+    let x = cursor.next_token()?;
     match x.token {
         Token::Sign(sign) => match sign {
-            Sign::Not => negation(line, x.after, x.column, levels, nodes),
-            Sign::Knows => knowledge(line, x.after, x.column, levels, nodes),
-            Sign::Value => value(line, x.after, x.column, levels, nodes),
-            Sign::Open => group(line, x.after, x.column, levels, nodes),
+            Sign::Not => negation(cursor, x.column, levels, nodes),
+            Sign::Knows => knowledge(cursor, x.column, levels, nodes),
+            Sign::Value => value(cursor, x.column, levels, nodes),
+            Sign::Open => group(cursor, x.column, levels, nodes),
             Sign::And
             | Sign::Or
             | Sign::Close
@@ -79,164 +80,120 @@ fn term(line: &[u8], from: usize, levels: u8, nodes: &mut NodeList) -> Result<us
             | Sign::Equals
             | Sign::Minus => Err(FormulaFault::Place(x.column)),
         },
-        Token::Word(w) => word(line, x.after, x.column, w, nodes),
-        Token::Number(_) | Token::End => Err(FormulaFault::Place(x.column)),
+        Token::Word(w) => word(cursor, x.column, w, nodes),
+        Token::Number { .. } | Token::End => Err(FormulaFault::Place(x.column)),
     }
 }
 
 // What follows `~`, which stands at the column.
 #[cycle(sentence)]
 fn negation(
-    line: &[u8],
-    from: usize,
+    cursor: &mut Cursor<'_>,
     column: usize,
     levels: u8,
     nodes: &mut NodeList,
-) -> Result<usize, FormulaFault>
-    ensures reads { Reads (term_in (inner levels) column (sign Not)) line.now from result (store_of nodes.old) (store_of nodes.new) }
+) -> Result<(), FormulaFault>
+    ensures reads { Reads (term_in (inner levels) column (sign Not)) cursor.old cursor.new result (store_of nodes.old) (store_of nodes.new) }
     ensures keeps { Keeps (store_of nodes.old) (store_of nodes.new) }
 {
-    if levels == 0 {
-        return Err(FormulaFault::Level(column));
-    }
-    let at = term(line, from, levels - 1, nodes)?;
+    let inner = deeper(levels, column)?;
+    term(cursor, inner, nodes)?;
     let a = nodes.last();
-    nodes.put(Node {
-        kind: 3,
-        a,
-        b: 0,
-        c: 0,
-    });
-    Ok(at)
+    nodes.put(node(3, a, 0, 0));
+    Ok(())
 }
 
 // What follows `K`.
 #[cycle(sentence)]
 fn knowledge(
-    line: &[u8],
-    from: usize,
+    cursor: &mut Cursor<'_>,
     column: usize,
     levels: u8,
     nodes: &mut NodeList,
-) -> Result<usize, FormulaFault>
-    ensures reads { Reads (term_in (inner levels) column (sign Knows)) line.now from result (store_of nodes.old) (store_of nodes.new) }
+) -> Result<(), FormulaFault>
+    ensures reads { Reads (term_in (inner levels) column (sign Knows)) cursor.old cursor.new result (store_of nodes.old) (store_of nodes.new) }
     ensures keeps { Keeps (store_of nodes.old) (store_of nodes.new) }
 {
-    if levels == 0 {
-        return Err(FormulaFault::Level(column));
-    }
-    let (agent, after) = number(line, from)?;
-    let at = term(line, after, levels - 1, nodes)?;
+    let inner = deeper(levels, column)?;
+    let agent = number(cursor)?;
+    term(cursor, inner, nodes)?;
     let b = nodes.last();
-    nodes.put(Node {
-        kind: 5,
-        a: agent,
-        b,
-        c: 0,
-    });
-    Ok(at)
+    nodes.put(node(5, agent, b, 0));
+    Ok(())
 }
 
 // What follows `(`.
 #[cycle(sentence)]
 fn group(
-    line: &[u8],
-    from: usize,
+    cursor: &mut Cursor<'_>,
     column: usize,
     levels: u8,
     nodes: &mut NodeList,
-) -> Result<usize, FormulaFault>
-    ensures reads { Reads (term_in (inner levels) column (sign Open)) line.now from result (store_of nodes.old) (store_of nodes.new) }
+) -> Result<(), FormulaFault>
+    ensures reads { Reads (term_in (inner levels) column (sign Open)) cursor.old cursor.new result (store_of nodes.old) (store_of nodes.new) }
     ensures keeps { Keeps (store_of nodes.old) (store_of nodes.new) }
 {
-    if levels == 0 {
-        return Err(FormulaFault::Level(column));
-    }
-    let at = disjunction(line, from, levels - 1, nodes)?;
-    expect_sign(line, at, Sign::Close)
+    let inner = deeper(levels, column)?;
+    disjunction(cursor, inner, nodes)?;
+    expect_sign(cursor, Sign::Close)
 }
 
 // What follows `V`.
 #[cycle(sentence)]
 fn value(
-    line: &[u8],
-    from: usize,
+    cursor: &mut Cursor<'_>,
     column: usize,
     levels: u8,
     nodes: &mut NodeList,
-) -> Result<usize, FormulaFault>
-    ensures reads { Reads (term_in (inner levels) column (sign Value)) line.now from result (store_of nodes.old) (store_of nodes.new) }
+) -> Result<(), FormulaFault>
+    ensures reads { Reads (term_in (inner levels) column (sign Value)) cursor.old cursor.new result (store_of nodes.old) (store_of nodes.new) }
     ensures keeps { Keeps (store_of nodes.old) (store_of nodes.new) }
 {
-    let (agent, dot) = number(line, from)?;
-    let second = expect_sign(line, dot, Sign::Dot)?;
-    let (quantity, after) = number(line, second)?;
-    match perhaps_sign(line, after, Sign::Slash)? {
+    let agent = number(cursor)?;
+    expect_sign(cursor, Sign::Dot)?;
+    let quantity = number(cursor)?;
+    match perhaps_sign(cursor, Sign::Slash)? {
         None => {
-            nodes.put(Node {
-                kind: 0,
-                a: 0,
-                b: 0,
-                c: 0,
-            });
+            nodes.put(node(0, 0, 0, 0));
             nodes.put_value(agent, quantity);
-            Ok(after)
+            Ok(())
         }
-        Some((slash, condition)) => {
-            if levels == 0 {
-                return Err(FormulaFault::Level(slash));
-            }
-            let at = term(line, condition, levels - 1, nodes)?;
+        Some(slash) => {
+            let inner = deeper(levels, slash)?;
+            term(cursor, inner, nodes)?;
             nodes.put_value(agent, quantity);
-            Ok(at)
+            Ok(())
         }
     }
 }
 
 // What follows a word, which stands at the column.
 fn word(
-    line: &[u8],
-    from: usize,
+    cursor: &mut Cursor<'_>,
     column: usize,
     text: &[u8],
     nodes: &mut NodeList,
-) -> Result<usize, FormulaFault>
-    requires { from ≤ length line.now }
-    ensures reads { Reads (word_in column (keyword text.now)) line.now from result (store_of nodes.old) (store_of nodes.new) }
+) -> Result<(), FormulaFault>
+    ensures reads { Reads (word_in column (keyword text.now)) cursor.old cursor.new result (store_of nodes.old) (store_of nodes.new) }
     ensures keeps { Keeps (store_of nodes.old) (store_of nodes.new) }
 {
     match keyword_of(text) {
-        Keyword::True => {
-            nodes.put(Node {
-                kind: 0,
-                a: 0,
-                b: 0,
-                c: 0,
-            });
-            Ok(from)
+        Some(Keyword::True) => {
+            nodes.put(node(0, 0, 0, 0));
+            Ok(())
         }
-        Keyword::Fact => {
-            let (fact, at) = number(line, from)?;
-            nodes.put(Node {
-                kind: 1,
-                a: fact,
-                b: 0,
-                c: 0,
-            });
-            Ok(at)
+        Some(Keyword::Fact) => {
+            let fact = number(cursor)?;
+            nodes.put(node(1, fact, 0, 0));
+            Ok(())
         }
-        Keyword::Quantity => {
-            let (quantity, equals) = number(line, from)?;
-            let after = expect_sign(line, equals, Sign::Equals)?;
-            let (amount, at) = number(line, after)?;
-            nodes.put(Node {
-                kind: 2,
-                a: quantity,
-                b: amount,
-                c: 0,
-            });
-            Ok(at)
+        Some(Keyword::Quantity) => {
+            let quantity = number(cursor)?;
+            expect_sign(cursor, Sign::Equals)?;
+            let amount = number(cursor)?;
+            nodes.put(node(2, quantity, amount, 0));
+            Ok(())
         }
-        Keyword::Other => Err(FormulaFault::Place(column)),
+        None => Err(FormulaFault::Place(column)),
     }
 }

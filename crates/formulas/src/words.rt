@@ -2,26 +2,22 @@
 ghost use Rattle.std.specs.Prelude.{◌≡◌};
 ghost use Rattle.formulas.specs.Readers.{keyword};
 
-use lexer::words::same;
-
-#[derive(Clone, Copy)]
+#[derive(Clone, Copy, Debug, PartialEq, Eq)]
 pub enum Keyword {
     True,
     Fact,
     Quantity,
-    Other,
 }
 
-pub fn keyword_of(word: &[u8]) -> Keyword
+// The word of a formula, if it is one.
+#[tactic(auto, unfolding(crate::specs::Readers::keyword))]
+pub fn keyword_of(word: &[u8]) -> Option<Keyword>
     ensures { result ≡ keyword word.now }
 {
-    if same(word, b"true") {
-        Keyword::True
-    } else if same(word, b"f") {
-        Keyword::Fact
-    } else if same(word, b"q") {
-        Keyword::Quantity
-    } else {
-        Keyword::Other
+    match word {
+        b"true" => Some(Keyword::True),
+        b"f" => Some(Keyword::Fact),
+        b"q" => Some(Keyword::Quantity),
+        _ => None,
     }
 }

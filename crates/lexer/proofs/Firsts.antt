@@ -1,114 +1,105 @@
--- The first piece from an index on, by the byte that it begins with.
-use Rattle.std.proofs.Common.{◌≡◌, ℕ, suc, ◌+◌, ◌-◌, ◌<◌, ◌≤◌, min, Bool, true, false, leb, List, [], ◌∷◌, length, get_or, take, drop, is_some, Some, None, Option, Result, sym, refl, ap, ◌∙◌, ⊎_elim, one-add, arith, length-drop, MatchResult}
+-- The piece that bytes begin with, by the first of them.
+use Rattle.std.proofs.Common.{◌≡◌, ℕ, suc, ◌+◌, ◌<◌, ◌≤◌, nat_lt, true, false, cond, List, [], ◌∷◌, length, take, drop, Some, None, Option, slice_get, sym, ap, ◌∙◌, subst, ⊎_elim, one-add, arith}
 use Rattle.std.specs.List.{prefix_len}
-use Rattle.std.proofs.lemmas.List.{drop_more, get_or-drop}
-use Rattle.std.proofs.lemmas.Bool.{cases_Bool, cond-true, cond-false, and_left, and_right, and_from, lt-leb, le-leb, leb-true, both_ways}
+use Rattle.std.proofs.lemmas.List.{length-take-le}
+use Rattle.std.proofs.lemmas.List.Sums.{prefix_len-le-length, prefix_len_stops, prefix_len-drop_no, prefix_len-drop_all}
+use Rattle.std.proofs.lemmas.Bool.{cases_Bool, cond-true, cond-false}
+use Rattle.lexer.specs.declared.tokens.Class.{Class}
 use Rattle.lexer.specs.declared.tokens.Class.TheVariants.{Space, Digit, Letter}
 use Rattle.lexer.specs.declared.tokens.Sign.{Sign as Mark}
-use Rattle.lexer.specs.Bytes.{belongs, sign_of, value_of, small}
-use Rattle.lexer.specs.Tokens.{Piece, Placed, number, word, bad, done, piece_at, numeral, mark, more, pieces_from}
-use Rattle.std.proofs.lemmas.Result.{MatchResult-weaker}
+use Rattle.lexer.specs.Bytes.{belongs, sign_of}
+use Rattle.lexer.specs.Tokens.{Piece, word, Placed, piece_at, numeral, mark, more, scan}
+use borrow.Author.Tests.{ltb-true, ltb-false}
 use Rattle.lexer.specs.declared.tokens.Token.{Token}
-use Rattle.lexer.specs.declared.tokens.Token.TheVariants.{Number, Word, Sign, End}
-use Rattle.lexer.specs.declared.tokens.Lexeme.{Lexeme}
-use Rattle.lexer.specs.declared.tokens.TokenFault.{TokenFault}
-use Rattle.lexer.specs.Faults.{of_token}
-use Rattle.lexer.specs.Steps.{Onward, Fine, Next, Stops}
-use Rattle.lexer.proofs.Scans.{pieces_clamped, pieces_spaces, pieces_end, pieces_first}
+use Rattle.lexer.specs.Faults.{Fault}
+use Rattle.lexer.specs.Steps.{Next, First, Stops}
+use Rattle.lexer.proofs.Scans.{scan_skip, scan_spaces}
 
--- a run stops at a byte of another class
-leading_stops : (p : ℕ → Bool) (xs : List ℕ) → prefix_len p xs < length xs → p (get_or xs (prefix_len p xs) 0) ≡ false
-leading_stops p [] h = absurd (omega arith)
-leading_stops p (x ∷ xs) h = ⊎_elim (yes' (leading_stops p xs)) no' (cases_Bool (p x))
+-- no space follows spaces
+pub no_space : (bs : List ℕ) → prefix_len (belongs Space) (drop (prefix_len (belongs Space) bs) bs) ≡ 0
+no_space bs = ⊎_elim inside outside (cases_Bool (nat_lt (prefix_len (belongs Space) bs) (length bs)))
   where
-    yes' : (prefix_len p xs < length xs → p (get_or xs (prefix_len p xs) 0) ≡ false) → p x ≡ true → p (get_or (x ∷ xs) (prefix_len p (x ∷ xs)) 0) ≡ false
-    yes' r e = let h' = simp (e, one-add) at h in simp (e, one-add) (r (omega arith))
+    inside : nat_lt (prefix_len (belongs Space) bs) (length bs) ≡ true → prefix_len (belongs Space) (drop (prefix_len (belongs Space) bs) bs) ≡ 0
+    inside h = let lt : prefix_len (belongs Space) bs < length bs = ltb-true _ _ h in prefix_len-drop_no (belongs Space) bs (prefix_len (belongs Space) bs) 0 lt (prefix_len_stops (belongs Space) bs 0 lt)
 
-    no' : p x ≡ false → p (get_or (x ∷ xs) (prefix_len p (x ∷ xs)) 0) ≡ false
-    no' e = simp e
+    outside : nat_lt (prefix_len (belongs Space) bs) (length bs) ≡ false → prefix_len (belongs Space) (drop (prefix_len (belongs Space) bs) bs) ≡ 0
+    outside h = prefix_len-drop_all (belongs Space) bs (prefix_len (belongs Space) bs) (ltb-false _ _ h)
 
-not_small : (n : ℕ) → is_some (small n) ≡ false → leb n 65535 ≡ false
-not_small n e = ⊎_elim (λ t. absurd (both_ways (is_some (small n)) e (ap is_some (cond-true (leb n 65535) (Some n) None t)))) (λ f. f) (cases_Bool (leb n 65535))
+module _ (c b : ℕ) (bs : List ℕ) (blank : prefix_len (belongs Space) (b ∷ bs) ≡ 0) where
+  none_here : belongs Space b ≡ false
+  none_here = ⊎_elim (λ e. absurd (omega (arith, blank, ap (λ t. cond t (1 + prefix_len (belongs Space) bs) 0) e))) (λ e. e) (cases_Bool (belongs Space b))
 
-is_small : (n : ℕ) → is_some (small n) ≡ true → leb n 65535 ≡ true
-is_small n e = ⊎_elim (λ t. t) (λ f. absurd (both_ways (is_some (small n)) (ap is_some (cond-false (leb n 65535) (Some n) None f)) e)) (cases_Bool (leb n 65535))
+  -- a piece of k bytes after the first
+  front : (p : Piece) (k : ℕ) → piece_at b bs ≡ p → more b bs ≡ k → k ≤ length bs → scan 0 c (b ∷ bs) ≡ record { piece = p; column = c } ∷ scan 0 (c + suc k) (drop k bs)
+  front p k is size fits =
+      cond-false (belongs Space b) _ _ none_here
+      ∙ (λ i. record { piece = is i; column = c } ∷ scan (size i) (c + 1) bs)
+      ∙ ap (λ l. record { piece = p; column = c } ∷ l) (scan_skip k (c + 1) bs fits ∙ ap (λ n. scan 0 n (drop k bs)) (let e : c + 1 + k ≡ c + suc k = omega arith in e))
 
-pub numeral_long : (ds : List ℕ) → 5 < length ds → numeral ds ≡ bad 13
-numeral_long ds h = cond-false _ _ _ (and_left (leb (length ds) 5) (leb (value_of ds) 65535) (lt-leb (length ds) 5 h))
+  digits_at : belongs Digit b ≡ true → (n : ℕ) (p : Piece) → n ≡ prefix_len (belongs Digit) (b ∷ bs) → numeral (take n (b ∷ bs)) ≡ p → scan 0 c (b ∷ bs) ≡ record { piece = p; column = c } ∷ scan 0 (c + n) (drop n (b ∷ bs))
+  digits_at d n p e is =
+      let k : ℕ = prefix_len (belongs Digit) bs in
+      let size : n ≡ suc k = e ∙ cond-true _ _ _ d ∙ one-add k in
+      let P : ℕ → Type 0 = λ m. numeral (take m (b ∷ bs)) ≡ p → scan 0 c (b ∷ bs) ≡ record { piece = p; column = c } ∷ scan 0 (c + m) (drop m (b ∷ bs)) in
+      subst P (sym size) (λ here. front p k (cond-true _ _ _ d ∙ here) (cond-true _ _ _ d) (prefix_len-le-length (belongs Digit) bs)) is
 
-pub numeral_large : (ds : List ℕ) → is_some (small (value_of ds)) ≡ false → numeral ds ≡ bad 13
-numeral_large ds h = cond-false _ _ _ (and_right (leb (length ds) 5) (leb (value_of ds) 65535) (not_small (value_of ds) h))
+  module _ (d : belongs Digit b ≡ false) where
+    letters_at : belongs Letter b ≡ true → (n : ℕ) → n ≡ prefix_len (belongs Letter) (b ∷ bs) → scan 0 c (b ∷ bs) ≡ record { piece = word (take n (b ∷ bs)); column = c } ∷ scan 0 (c + n) (drop n (b ∷ bs))
+    letters_at l n e =
+        let k : ℕ = prefix_len (belongs Letter) bs in
+        let size : n ≡ suc k = e ∙ cond-true _ _ _ l ∙ one-add k in
+        let P : ℕ → Type 0 = λ m. scan 0 c (b ∷ bs) ≡ record { piece = word (take m (b ∷ bs)); column = c } ∷ scan 0 (c + m) (drop m (b ∷ bs)) in
+        subst P (sym size) (front _ k (cond-false _ _ _ d ∙ cond-true _ _ _ l) (cond-false _ _ _ d ∙ cond-true _ _ _ l) (prefix_len-le-length (belongs Letter) bs))
 
-pub numeral_fits : (ds : List ℕ) → length ds ≤ 5 → is_some (small (value_of ds)) ≡ true → numeral ds ≡ number ds
-numeral_fits ds l h = cond-true _ _ _ (and_from (leb (length ds) 5) (leb (value_of ds) 65535) (le-leb (length ds) 5 l) (is_small (value_of ds) h))
+    mark_at : belongs Letter b ≡ false → (o : Option Mark) → o ≡ sign_of b → scan 0 c (b ∷ bs) ≡ record { piece = mark o; column = c } ∷ scan 0 (c + 1) bs
+    mark_at l o e = front (mark o) 0 (cond-false _ _ _ d ∙ cond-false _ _ _ l ∙ ap mark (sym e)) (cond-false _ _ _ d ∙ cond-false _ _ _ l) (omega arith)
 
-pub value_fits : (ds : List ℕ) → is_some (small (value_of ds)) ≡ true → value_of ds ≤ 65535
-value_fits ds h = leb-true (value_of ds) 65535 (is_small (value_of ds) h)
+-- the bytes are the first and the others
+pub front_is : (xs : List ℕ) (b : ℕ) → Some b ≡ slice_get xs 0 → xs ≡ b ∷ drop 1 xs
+front_is [] b e = absurd (let z : Some b ≡ None = e in let q : ◌≡◌ {A = ℕ} 0 1 = cc in omega arith)
+front_is (x ∷ xs) b e = let same : x ≡ b = cc in ap (λ y. y ∷ xs) same
 
--- a piece that ends at a later index leaves less
-pub onward_past : (line : List ℕ) (at after : ℕ) (p : Placed) → at < after → pieces_from line at ≡ p ∷ pieces_from line after → Onward line at after
-onward_past line at after p h e = record { bytes = h; pieces = omega (arith, ap length e) }
+-- a run of n bytes
+module _ (k : Class) (xs : List ℕ) (n : ℕ) (e : n ≡ prefix_len (belongs k) xs) where
+  pub sized : length (take n xs) ≡ n
+  sized = length-take-le n xs (omega (arith, e, prefix_len-le-length (belongs k) xs))
 
-module _ (line : List ℕ) (from k : ℕ) (spaces : k ≡ prefix_len (belongs Space) (drop from line)) where
-  pub at_end : from + k ≡ length line → pieces_from line from ≡ record { piece = done; column = from + k + 1 } ∷ []
-  at_end e = pieces_spaces line from k (omega arith) spaces ∙ pieces_end line (from + k) e
+  pub fits : length (take n xs) ≤ length xs
+  fits = omega (arith, sized, e, prefix_len-le-length (belongs k) xs)
 
-  -- spaces end at a byte that is none
-  pub no_space : from + k < length line → belongs Space (get_or line (from + k) 0) ≡ false
-  no_space inside =
-      ap (belongs Space) (sym (get_or-drop from line k 0) ∙ ap (λ n. get_or (drop from line) n 0) spaces)
-      ∙ leading_stops (belongs Space) (drop from line) (omega (arith, spaces, length-drop from line))
+module _ (c : ℕ) (xs : List ℕ) (blank : prefix_len (belongs Space) xs ≡ 0) (b : ℕ) (some : Some b ≡ slice_get xs 0) where
+  pub first_digits : belongs Digit b ≡ true → (n : ℕ) (p : Piece) → n ≡ prefix_len (belongs Digit) xs → numeral (take n xs) ≡ p → scan 0 c xs ≡ record { piece = p; column = c } ∷ scan 0 (c + length (take n xs)) (drop (length (take n xs)) xs)
+  first_digits d n p e is =
+      let P : List ℕ → Type 0 = λ l. prefix_len (belongs Space) l ≡ 0 → n ≡ prefix_len (belongs Digit) l → numeral (take n l) ≡ p → scan 0 c l ≡ record { piece = p; column = c } ∷ scan 0 (c + n) (drop n l) in
+      subst P (sym (front_is xs b some)) (λ h. digits_at c b (drop 1 xs) h d n p) blank e is
+      ∙ ap (λ m. record { piece = p; column = c } ∷ scan 0 (c + m) (drop m xs)) (sym (sized Digit xs n e))
 
-  -- what comes after spaces comes next
-  module _ (first : ℕ) (within : from + k ≤ length line) (starts : from ≡ min first (length line)) where
-    same_pieces : pieces_from line first ≡ pieces_from line (from + k)
-    same_pieces = pieces_clamped line first ∙ ap (pieces_from line) (sym starts) ∙ pieces_spaces line from k within spaces
+  module _ (d : belongs Digit b ≡ false) where
+    pub first_letters : belongs Letter b ≡ true → (n : ℕ) → n ≡ prefix_len (belongs Letter) xs → scan 0 c xs ≡ record { piece = word (take n xs); column = c } ∷ scan 0 (c + length (take n xs)) (drop (length (take n xs)) xs)
+    first_letters l n e =
+        let P : List ℕ → Type 0 = λ ys. prefix_len (belongs Space) ys ≡ 0 → n ≡ prefix_len (belongs Letter) ys → scan 0 c ys ≡ record { piece = word (take n ys); column = c } ∷ scan 0 (c + n) (drop n ys) in
+        subst P (sym (front_is xs b some)) (λ h. letters_at c b (drop 1 xs) h d l n) blank e
+        ∙ ap (λ m. record { piece = word (take n xs); column = c } ∷ scan 0 (c + m) (drop m xs)) (sym (sized Letter xs n e))
 
-    onward_before : (after : ℕ) → after ≤ length line → Onward line (from + k) after → Onward line first after
-    onward_before after h o =
-        let fewer = o.bytes in
-        record { bytes = omega (arith, o.bytes); pieces = omega (arith, o.pieces, ap length same_pieces) }
+    pub first_mark : belongs Letter b ≡ false → (o : Option Mark) → o ≡ sign_of b → scan 0 c xs ≡ record { piece = mark o; column = c } ∷ scan 0 (c + 1) (drop 1 xs)
+    first_mark l o e =
+        let P : List ℕ → Type 0 = λ ys. prefix_len (belongs Space) ys ≡ 0 → scan 0 c ys ≡ record { piece = mark o; column = c } ∷ scan 0 (c + 1) (drop 1 ys) in
+        subst P (sym (front_is xs b some)) (λ h. mark_at c b (drop 1 xs) h d l o e) blank
 
-    fine_before : (t : Token) (after : ℕ) → after ≤ length line → Fine t line (from + k) after → Fine t line first after
-    fine_before (Number d) after h f = (f.0, onward_before after h f.1)
-    fine_before (Word w) after h f = onward_before after h f
-    fine_before (Sign s) after h f = onward_before after h f
-    fine_before End after h f = tt
+-- what comes after k spaces comes next
+module _ (c : ℕ) (bs : List ℕ) (k : ℕ) (ys : List ℕ) (run : k ≡ prefix_len (belongs Space) bs) (left : ys ≡ drop k bs) where
+  pub no_space_left : prefix_len (belongs Space) ys ≡ 0
+  no_space_left = ap (prefix_len (belongs Space)) (left ∙ ap (λ n. drop n bs) run) ∙ no_space bs
 
-    pub next_before : (r : Result Lexeme TokenFault) → MatchResult r (λ x. Next line (from + k) x) (λ e. Stops (pieces_from line (from + k)) (of_token e))
-        → MatchResult r (λ x. Next line first x) (λ e. Stops (pieces_from line first) (of_token e))
-    next_before r h =
-        MatchResult-weaker r h
-        (λ x n. record { first = same_pieces ∙ n.first; within = n.within; fine = fine_before x.token x.after n.within n.fine })
-        (λ e s. (s.0, same_pieces ∙ s.1))
+  module _ (ps : List Placed) (view : scan 0 c bs ≡ ps) where
+    same_pieces : ps ≡ scan 0 (c + k) ys
+    same_pieces = sym view ∙ scan_spaces c bs ∙ sym (ap (λ n. scan 0 (c + n) (drop n bs)) run) ∙ ap (scan 0 (c + k)) (sym left)
 
-module _ (line : List ℕ) (at : ℕ) (inside : at < length line) (no-blank : belongs Space (get_or line at 0) ≡ false) where
-  first_piece : (p : Piece) (n : ℕ) → piece_at (get_or line at 0) (drop (at + 1) line) ≡ p → more (get_or line at 0) (drop (at + 1) line) ≡ n
-      → at + 1 + n ≤ length line → pieces_from line at ≡ record { piece = p; column = at + 1 } ∷ pieces_from line (at + 1 + n)
-  first_piece p n e m h =
-      pieces_first line at inside no-blank (omega (arith, m))
-      ∙ (λ i. record { piece = e i; column = at + 1 } ∷ pieces_from line (at + 1 + m i))
+    pub stops_after : (e : Fault) → Stops (scan 0 (c + k) ys) e → Stops ps e
+    stops_after e s = (s.0, same_pieces ∙ s.1)
 
-  part : (n : ℕ) → get_or line at 0 ∷ take n (drop (at + 1) line) ≡ take (at + 1 + n - at) (drop at line)
-  part n = let e : at + 1 + n - at ≡ suc n = omega arith in simp e (simp (drop_more line at 0 inside) refl)
-
-  module _ (n : ℕ) (h : at + 1 + n ≤ length line) where
-    pub first_digits : (p : Piece) → belongs Digit (get_or line at 0) ≡ true → n ≡ prefix_len (belongs Digit) (drop (at + 1) line)
-        → numeral (take (at + 1 + n - at) (drop at line)) ≡ p → pieces_from line at ≡ record { piece = p; column = at + 1 } ∷ pieces_from line (at + 1 + n)
-    first_digits p d r e =
-        first_piece p n
-        (cond-true _ _ _ d ∙ ap (λ m. numeral (get_or line at 0 ∷ take m (drop (at + 1) line))) (sym r) ∙ ap numeral (part n) ∙ e)
-        (cond-true _ _ _ d ∙ sym r) h
-
-    pub first_letters : belongs Digit (get_or line at 0) ≡ false → belongs Letter (get_or line at 0) ≡ true → n ≡ prefix_len (belongs Letter) (drop (at + 1) line)
-        → pieces_from line at ≡ record { piece = word (take (at + 1 + n - at) (drop at line)); column = at + 1 } ∷ pieces_from line (at + 1 + n)
-    first_letters d l r =
-        first_piece _ n
-        (cond-false _ _ _ d ∙ cond-true _ _ _ l ∙ ap (λ m. word (get_or line at 0 ∷ take m (drop (at + 1) line))) (sym r) ∙ ap word (part n))
-        (cond-false _ _ _ d ∙ cond-true _ _ _ l ∙ sym r) h
-
-  pub first_mark : (o : Option Mark) → belongs Digit (get_or line at 0) ≡ false → belongs Letter (get_or line at 0) ≡ false → o ≡ sign_of (get_or line at 0)
-      → pieces_from line at ≡ record { piece = mark o; column = at + 1 } ∷ pieces_from line (at + 1)
-  first_mark o d l e =
-      first_piece (mark o) 0 (cond-false _ _ _ d ∙ cond-false _ _ _ l ∙ ap mark (sym e)) (cond-false _ _ _ d ∙ cond-false _ _ _ l) (omega arith)
-      ∙ ap (λ n. record { piece = mark o; column = at + 1 } ∷ pieces_from line n) (let q : at + 1 + 0 ≡ at + 1 = omega arith in q)
+    pub next_after : (t : Token) (m n : ℕ) (zs : List ℕ) → First ys (c + k) t m → n ≡ m → zs ≡ drop n ys → Next ps (record { token = t; column = c + k }) (scan 0 (c + k + n) zs)
+    next_after t m n zs f e z =
+        let P : List Placed → Type 0 = λ l. Next l (record { token = t; column = c + k }) (scan 0 (c + k + n) zs) in
+        let Q : List Placed → Type 0 = λ l. Next (scan 0 (c + k) ys) (record { token = t; column = c + k }) l in
+        subst P (sym same_pieces) (subst Q (ap (λ i. scan 0 (c + k + i) (drop i ys)) (sym e) ∙ ap (scan 0 (c + k + n)) (sym z)) f.next)

@@ -1,32 +1,11 @@
 -- Facts on the pieces of a line.
-use Rattle.std.proofs.Common.{◌≡◌, ℕ, zero, suc, ◌+◌, ◌-◌, ◌*◌, ◌<◌, ◌≤◌, min, true, false, leb, List, [], ◌∷◌, length, get_or, take, drop, fold, sym, refl, ap, ◌∙◌, ⊎_elim, add-zero, one-add, arith, length-drop}
-use native.Mathlib.Nat.{min-eq_left, min-eq_right}
+use Rattle.std.proofs.Common.{◌≡◌, ℕ, zero, suc, ◌+◌, ◌≤◌, true, false, List, [], ◌∷◌, length, drop, sym, ap, ◌∙◌, ⊎_elim, add-zero, one-add, arith}
+use native.Mathlib.Nat.{min-eq_left}
 use Rattle.std.specs.List.{prefix_len}
-use Rattle.std.proofs.lemmas.List.{drop-drop, drop_more, drop_all}
-use Rattle.std.proofs.lemmas.List.Sums.{fold_more}
-use Rattle.std.proofs.lemmas.Bool.{cases_Bool, cond-false, leb-true, leb-false}
+use Rattle.std.proofs.lemmas.Bool.{cases_Bool}
 use Rattle.lexer.specs.declared.tokens.Class.TheVariants.{Space}
-use Rattle.lexer.specs.Bytes.{belongs, value_of}
-use Rattle.lexer.specs.Tokens.{done, piece_at, more, scan, pieces_from}
-
-abbrev digits : ℕ → ℕ → ℕ
-digits n b = n * 10 + (b - 48)
-
-pub value_grows : (n : ℕ) (ds : List ℕ) → n ≤ fold digits n ds
-value_grows n [] = omega arith
-value_grows n (d ∷ ds) = omega (arith, value_grows (digits n d) ds)
-
-pub value_more : (ds : List ℕ) (i : ℕ) → i < length ds → value_of (take (i + 1) ds) ≡ value_of (take i ds) * 10 + (get_or ds i 0 - 48)
-value_more ds i h = fold_more digits 0 ds i 0 h
-
-folded_split : (n i : ℕ) (ds : List ℕ) → fold digits n ds ≡ fold digits (fold digits n (take i ds)) (drop i ds)
-folded_split n zero ds = refl
-folded_split n (suc i) [] = refl
-folded_split n (suc i) (d ∷ ds) = folded_split (digits n d) i ds
-
--- what the first digits write is no more than what all do
-pub value_front : (i : ℕ) (ds : List ℕ) → value_of (take i ds) ≤ value_of ds
-value_front i ds = omega (arith, folded_split 0 i ds, value_grows (value_of (take i ds)) (drop i ds))
+use Rattle.lexer.specs.Bytes.{belongs}
+use Rattle.lexer.specs.Tokens.{scan, pieces_from}
 
 -- bytes to skip are passed over
 pub scan_skip : (k c : ℕ) (bs : List ℕ) → k ≤ length bs → scan k c bs ≡ scan 0 (c + k) (drop k bs)
@@ -35,7 +14,7 @@ scan_skip (suc k) c [] h = absurd (omega arith)
 scan_skip (suc k) c (b ∷ bs) h = scan_skip k (c + 1) bs (omega arith) ∙ ap (λ n. scan 0 n (drop k bs)) (let e : c + 1 + k ≡ c + suc k = omega arith in e)
 
 -- so are spaces
-scan_spaces : (c : ℕ) (bs : List ℕ) → scan 0 c bs ≡ scan 0 (c + prefix_len (belongs Space) bs) (drop (prefix_len (belongs Space) bs) bs)
+pub scan_spaces : (c : ℕ) (bs : List ℕ) → scan 0 c bs ≡ scan 0 (c + prefix_len (belongs Space) bs) (drop (prefix_len (belongs Space) bs) bs)
 scan_spaces c [] = ap (λ n. scan 0 n []) (sym (add-zero c))
 scan_spaces c (b ∷ bs) = ⊎_elim (yes' (scan_spaces (c + 1) bs)) no' (cases_Bool (belongs Space b))
   where
@@ -48,42 +27,3 @@ scan_spaces c (b ∷ bs) = ⊎_elim (yes' (scan_spaces (c + 1) bs)) no' (cases_B
 pub pieces_at : (line : List ℕ) (at : ℕ) → at ≤ length line → pieces_from line at ≡ scan 0 (at + 1) (drop at line)
 unfolding pieces_from
 pieces_at line at h = ap (λ n. scan 0 (n + 1) (drop at line)) (min-eq_left h)
-
-module _ (line : List ℕ) (at : ℕ) where
-  -- what is past the line's end is its end
-  pub pieces_clamped : pieces_from line at ≡ pieces_from line (min at (length line))
-  unfolding pieces_from
-  pieces_clamped = ⊎_elim (λ h. ap (pieces_from line) (sym (min-eq_left (leb-true at (length line) h)))) (λ h. past (leb-false at (length line) h)) (cases_Bool (leb at (length line)))
-    where
-      past : length line < at → pieces_from line at ≡ pieces_from line (min at (length line))
-      past h =
-          let ends : length line ≤ at = omega arith in
-          let itself : length line ≤ length line = omega arith in
-          (λ i. scan 0 ((min-eq_right ends ∙ sym (min-eq_left itself)) i + 1) ((drop_all at line ends ∙ sym (drop_all (length line) line itself)) i))
-          ∙ ap (pieces_from line) (sym (min-eq_right ends))
-
-  pub pieces_spaces : (k : ℕ) → at + k ≤ length line → k ≡ prefix_len (belongs Space) (drop at line) → pieces_from line at ≡ pieces_from line (at + k)
-  pieces_spaces k h e =
-      pieces_at line at (omega arith) ∙ scan_spaces (at + 1) (drop at line)
-      ∙ ap (λ n. scan 0 (at + 1 + n) (drop n (drop at line))) (sym e)
-      ∙ (λ i. scan 0 (let q : at + 1 + k ≡ at + k + 1 = omega arith in q i) (drop-drop k at line i))
-      ∙ sym (pieces_at line (at + k) h)
-
-  pub pieces_end : at ≡ length line → pieces_from line at ≡ record { piece = done; column = at + 1 } ∷ []
-  pieces_end h = pieces_at line at (omega arith) ∙ ap (λ l. scan 0 (at + 1) l) (drop_all at line (omega arith))
-
-  abbrev pub after_first : List ℕ
-  after_first = drop (at + 1) line
-
-  abbrev pub first_byte : ℕ
-  first_byte = get_or line at 0
-
-  pub pieces_first : at < length line → belongs Space first_byte ≡ false → at + 1 + more first_byte after_first ≤ length line
-      → pieces_from line at ≡ record { piece = piece_at first_byte after_first; column = at + 1 } ∷ pieces_from line (at + 1 + more first_byte after_first)
-  pieces_first h e fits =
-      pieces_at line at (omega arith) ∙ ap (λ l. scan 0 (at + 1) l) (drop_more line at 0 h)
-      ∙ cond-false (belongs Space first_byte) _ _ e
-      ∙ ap (λ l. record { piece = piece_at first_byte after_first; column = at + 1 } ∷ l)
-      (scan_skip (more first_byte after_first) (at + 1 + 1) after_first (omega (arith, length-drop (at + 1) line))
-      ∙ (λ i. scan 0 (let q : at + 1 + 1 + more first_byte after_first ≡ at + 1 + more first_byte after_first + 1 = omega arith in q i) (drop-drop (more first_byte after_first) (at + 1) line i))
-      ∙ sym (pieces_at line (at + 1 + more first_byte after_first) fits))

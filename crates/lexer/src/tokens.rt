@@ -1,22 +1,20 @@
 // The tokens of a line. A token borrows its bytes.
-ghost use Rattle.std.specs.Prelude.{◌≡◌, ◌+◌, ◌-◌, ◌*◌, ◌<◌, ◌≤◌, false, length, drop, Some, None, MatchResult, slice_index};
+ghost use Rattle.std.specs.Prelude.{◌≡◌, ◌≤◌, length, drop, MatchOption, MatchResult};
 ghost use Rattle.lexer.specs.declared.tokens.Class.TheVariants.{Space};
 ghost use Rattle.std.specs.List.{prefix_len};
 ghost use Rattle.lexer.specs.Bytes.{belongs, sign_of, value_of, small};
-ghost use Rattle.lexer.specs.Tokens.{pieces_from};
+ghost use Rattle.lexer.specs.Tokens.{number, bad, numeral, scan};
 ghost use Rattle.lexer.specs.Faults.{of_token};
-ghost use Rattle.lexer.specs.Steps.{Next, Stops};
+ghost use Rattle.lexer.specs.Steps.{size_of, First, Stops};
 ghost use Rattle.lexer.specs.Tiles.{TokensTile};
 
 // The most bytes that a line may have.
 pub const MAX_LINE: usize = 200;
 // The most digits that a number may have.
 pub const MAX_DIGITS: usize = 5;
-// The greatest number.
-pub const MAX_NUMBER: u32 = 65535;
 
 // A token of one byte that is no digit and no small letter.
-#[derive(Clone, Copy, PartialEq, Eq)]
+#[derive(Clone, Copy, Debug, PartialEq, Eq)]
 pub enum Sign {
     Not,
     And,
@@ -31,21 +29,20 @@ pub enum Sign {
     Value,
 }
 
-// A part of a line, or the line's end.
-#[derive(Clone, Copy)]
+// A part of a line, or the line's end. A number has its digits beside it.
+#[derive(Clone, Copy, Debug, PartialEq, Eq)]
 pub enum Token<'a> {
-    Number(&'a [u8]),
+    Number { digits: &'a [u8], value: u16 },
     Word(&'a [u8]),
     Sign(Sign),
     End,
 }
 
-// A token with its column, from 1, and the index of the first byte after it.
-#[derive(Clone, Copy)]
+// A token with its column, from 1.
+#[derive(Clone, Copy, Debug, PartialEq, Eq)]
 pub struct Lexeme<'a> {
     pub token: Token<'a>,
     pub column: usize,
-    pub after: usize,
 }
 
 // What is wrong with the bytes of a line, with its column.
@@ -58,7 +55,7 @@ pub enum TokenFault {
 }
 
 // What a run of bytes is made of.
-#[derive(Clone, Copy)]
+#[derive(Clone, Copy, Debug, PartialEq, Eq)]
 pub enum Class {
     Space,
     Digit,
@@ -76,17 +73,20 @@ fn is(class: Class, byte: u8) -> bool
     }
 }
 
-// How many bytes from `at` on are of the class.
-fn run(line: &[u8], at: usize, class: Class) -> usize
-    requires { at ≤ length line.now }
-    ensures run { result ≡ prefix_len (belongs class) (drop at line.now) }
-    ensures within { at + result ≤ length line.now }
+// How many bytes at the front are of the class.
+pub(crate) fn run(bytes: &[u8], class: Class) -> usize
+    ensures is_the_run { result ≡ prefix_len (belongs class) bytes.now }
+    ensures within { result ≤ length bytes.now }
 {
-    let mut end = at;
-    while end < line.len() && is(class, line[end]) {
-        end += 1;
-    }
-    end - at
+    bytes.iter().take_while(|b| is(class, **b)).count()
+}
+
+// The bytes after the first n.
+pub(crate) fn after(bytes: &[u8], n: usize) -> &[u8]
+    requires { n ≤ length bytes.now }
+    ensures { result.now ≡ drop n bytes.now }
+{
+    &bytes[n..]
 }
 
 // The sign that the byte is, if it is one.
@@ -113,72 +113,63 @@ fn sign_of(byte: u8) -> Option<Sign>
 pub fn value_of(digits: &[u8]) -> Option<u16>
     ensures is_the_number_written { result ≡ small (value_of digits.now) }
 {
-    let mut value: u32 = 0;
-    for b in digits {
-        value = value * 10 + u32::from(b.saturating_sub(b'0'));
-        if value > MAX_NUMBER {
-            return None;
-        }
-    }
-    Some(value as u16)
+    digits.iter().try_fold(0u16, |value, b| {
+        value
+            .checked_mul(10)?
+            .checked_add(u16::from(b.saturating_sub(b'0')))
+    })
 }
 
-// The token at a byte that is not a space.
-fn token_at(line: &[u8], at: usize) -> Result<Lexeme<'_>, TokenFault>
-    requires { (at < length line.now) × (belongs Space (slice_index line.now at) ≡ false) }
-    ensures { MatchResult result (λ x. Next line.now at x) (λ e. Stops (pieces_from line.now at) (of_token e)) }
+// The number of at most five digits.
+fn number_of(digits: &[u8]) -> Option<u16>
+    ensures { MatchOption result (numeral digits.now ≡ bad 13) (λ n. (numeral digits.now ≡ number digits.now) × (n ≡ value_of digits.now)) }
 {
-    let column = at + 1;
-    let first = line[at];
-    if is(Class::Digit, first) {
-        let after = column + run(line, column, Class::Digit);
-        let digits = &line[at..after];
-        if digits.len() > MAX_DIGITS || value_of(digits).is_none() {
-            return Err(TokenFault::Number(column));
+    if digits.len() > MAX_DIGITS {
+        None
+    } else {
+        value_of(digits)
+    }
+}
+
+impl<'a> Token<'a> {
+    // How many bytes it has.
+    pub(crate) fn size(self) -> usize
+        ensures { result ≡ size_of self.entry }
+    {
+        match self {
+            Token::Number { digits, .. } => digits.len(),
+            Token::Word(letters) => letters.len(),
+            Token::Sign(_) => 1,
+            Token::End => 0,
         }
-        return Ok(Lexeme {
-            token: Token::Number(digits),
-            column,
-            after,
-        });
     }
-    if is(Class::Letter, first) {
-        let after = column + run(line, column, Class::Letter);
-        return Ok(Lexeme {
-            token: Token::Word(&line[at..after]),
-            column,
-            after,
-        });
+}
+
+// The token at the front of bytes that begin with no space and stand at the column.
+pub(crate) fn first_token(bytes: &[u8], column: usize) -> Result<Token<'_>, TokenFault>
+    requires { prefix_len (belongs Space) bytes.now ≡ 0 }
+    ensures { MatchResult result (λ t. First bytes.now column t (size_of t)) (λ e. Stops (scan 0 column bytes.now) (of_token e)) }
+{
+    let Some(first) = bytes.first() else {
+        return Ok(Token::End);
+    };
+    if is(Class::Digit, *first) {
+        let digits = &bytes[..run(bytes, Class::Digit)];
+        return match number_of(digits) {
+            Some(value) => Ok(Token::Number { digits, value }),
+            None => Err(TokenFault::Number(column)),
+        };
     }
-    match sign_of(first) {
-        Some(sign) => Ok(Lexeme {
-            token: Token::Sign(sign),
-            column,
-            after: column,
-        }),
+    if is(Class::Letter, *first) {
+        return Ok(Token::Word(&bytes[..run(bytes, Class::Letter)]));
+    }
+    match sign_of(*first) {
+        Some(sign) => Ok(Token::Sign(sign)),
         None => Err(TokenFault::Byte(column)),
     }
 }
 
-// The token at the first byte from `from` on that is not a space; past the line's end there is nothing but the end.
-pub fn next(line: &[u8], from: usize) -> Result<Lexeme<'_>, TokenFault>
-    ensures is_the_next_piece { MatchResult result (λ x. Next line.now from x) (λ e. Stops (pieces_from line.now from) (of_token e)) }
-{
-    let start = from.min(line.len());
-    let at = start + run(line, start, Class::Space);
-    if at == line.len() {
-        return Ok(Lexeme {
-            token: Token::End,
-            column: at + 1,
-            after: at,
-        });
-    }
-    token_at(line, at)
-}
-
 // The tokens of a line without a fault, each at its column with spaces between, are the line.
-pub fn tokens_tile_the_line() -> u8
+pub fn tokens_tile_the_line()
     ensures tiles_the_line { TokensTile }
-{
-    0
-}
+{}

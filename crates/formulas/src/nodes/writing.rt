@@ -10,6 +10,13 @@ use theory::node::Node;
 // The most nodes that a list has.
 pub const MAX_NODES: usize = 4096;
 
+// A node by its fields.
+pub(crate) fn node(kind: u8, a: u16, b: u16, c: u16) -> Node
+    ensures { result ≡ node kind a b c }
+{
+    Node { kind, a, b, c }
+}
+
 impl NodeList {
     // An empty list, with all its places reserved.
     pub fn new(heap: Global) -> Result<NodeList, AllocError>
@@ -56,6 +63,7 @@ impl NodeList {
     }
 
     // Appends a node, if it finds a place.
+    #[tactic(auto, unfolding(crate::specs::Stores::put))]
     pub(crate) fn put(&mut self, node: Node)
         ensures written { store_of self.new ≡ put (store_of self.old) node }
         ensures keeps { Keeps (store_of self.old) (store_of self.new) }
@@ -73,32 +81,12 @@ impl NodeList {
         ensures keeps { Keeps (store_of self.old) (store_of self.new) }
     {
         let b = self.last();
-        self.put(Node {
-            kind: 3,
-            a,
-            b: 0,
-            c: 0,
-        });
-        self.put(Node {
-            kind: 3,
-            a: b,
-            b: 0,
-            c: 0,
-        });
+        self.put(node(3, a, 0, 0));
+        self.put(node(3, b, 0, 0));
         let y = self.last();
-        self.put(Node {
-            kind: 4,
-            a: y.saturating_sub(1),
-            b: y,
-            c: 0,
-        });
+        self.put(node(4, y.saturating_sub(1), y, 0));
         let x = self.last();
-        self.put(Node {
-            kind: 3,
-            a: x,
-            b: 0,
-            c: 0,
-        });
+        self.put(node(3, x, 0, 0));
     }
 
     // Appends a value node over the node written last.
@@ -107,11 +95,6 @@ impl NodeList {
         ensures keeps { Keeps (store_of self.old) (store_of self.new) }
     {
         let c = self.last();
-        self.put(Node {
-            kind: 6,
-            a: agent,
-            b: quantity,
-            c,
-        });
+        self.put(node(6, agent, quantity, c));
     }
 }

@@ -1,4 +1,4 @@
-use Rattle.std.proofs.Common.{◌+◌, ◌-◌, ◌*◌, length}
+use Rattle.std.proofs.Common.{◌+◌, ◌*◌, length}
 use Rattle.lexer.specs.declared.tokens.Sign.TheVariants.{And, Or}
 use Rattle.formulas.specs.Readers.{term, conjunction}
 use Rattle.formulas.specs.Sentences.{both, either}
@@ -27,14 +27,14 @@ decreases-term l = 4 * l.levels + 1
 abbrev pub decreases-value : goal.decreases-value
 decreases-value l = 4 * l.levels
 
-abbrev pub invariant-conjunction-loop-after : goal.invariant-conjunction-loop-after
-invariant-conjunction-loop-after l = Going And both (term l.levels) l.line l.initial.at (store_of l.initial.nodes) l.at (store_of l.nodes)
+abbrev pub invariant-conjunction-loop-column : goal.invariant-conjunction-loop-column
+invariant-conjunction-loop-column l = Going And both (term l.levels) l.initial.cursor (store_of l.initial.nodes) l.cursor (store_of l.nodes)
 
-abbrev pub decreases-conjunction-loop-after : goal.decreases-conjunction-loop-after
-decreases-conjunction-loop-after l = length l.line - l.at
+abbrev pub decreases-conjunction-loop-column : goal.decreases-conjunction-loop-column
+decreases-conjunction-loop-column l = length l.cursor
 
-abbrev pub invariant-disjunction-loop-after : goal.invariant-disjunction-loop-after
-invariant-disjunction-loop-after l = Going Or either (conjunction l.levels) l.line l.initial.at (store_of l.initial.nodes) l.at (store_of l.nodes)
+abbrev pub invariant-disjunction-loop-column : goal.invariant-disjunction-loop-column
+invariant-disjunction-loop-column l = Going Or either (conjunction l.levels) l.initial.cursor (store_of l.initial.nodes) l.cursor (store_of l.nodes)
 
-abbrev pub decreases-disjunction-loop-after : goal.decreases-disjunction-loop-after
-decreases-disjunction-loop-after l = length l.line - l.at
+abbrev pub decreases-disjunction-loop-column : goal.decreases-disjunction-loop-column
+decreases-disjunction-loop-column l = length l.cursor
