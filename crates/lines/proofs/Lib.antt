@@ -1,3 +1,2 @@
 pub mod Readings
-pub mod Dating
-pub mod Calling
+pub mod Starts

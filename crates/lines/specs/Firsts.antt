@@ -1,6 +1,6 @@
 -- The first word of a line, and what is answered to a line.
-use Rattle.std.specs.Prelude.{◌≡◌, ℕ, ◌≤◌, cond, List, length, nat_le}
-use Rattle.lexer.specs.Tokens.{pieces_from}
+use Rattle.std.specs.Prelude.{◌≡◌, ℕ, ◌<◌, cond, List, length, nat_le}
+use Rattle.lexer.specs.Tokens.{Placed, pieces_from}
 use Rattle.lexer.specs.Faults.{Fault}
 use Rattle.formulas.specs.Reading.{Outcome, fault, parsed, at}
 use Rattle.lines.specs.declared.firsts.FirstWord.{FirstWord}
@@ -20,8 +20,7 @@ answer (parsed x ps) = accepted x
 unfoldable pub first_word : List ℕ → Outcome Beginning
 first_word line = cond (nat_le (length line) 200) (the_beginning (pieces_from line 0)) (at 11 0)
 
--- a line begins with the word x, and the rest comes after it
-pub record Begun (line : List ℕ) (x : FirstWord) : Type 0 where
-  pub is : first_word line ≡ parsed (record { letters = x.word.now; column = x.column }) (pieces_from line x.after)
-  pub short : length line ≤ 200
-  pub within : x.after ≤ length line
+-- pieces begin with the word x, and the rest comes after it
+pub record Begun (ps : List Placed) (x : FirstWord) (rest : List Placed) : Type 0 where
+  pub is : the_beginning ps ≡ parsed (record { letters = x.word.now; column = x.column }) rest
+  pub fewer : length rest < length ps

@@ -1,5 +1,5 @@
 -- Setting lines, and what they say.
-use Rattle.std.specs.Prelude.{◌≡◌, ℕ, cond, List, [], Some, None, Ok, Err, codes, Option, Result}
+use Rattle.std.specs.Prelude.{ℕ, cond, List, [], Some, None, Ok, Err, codes, Option, Result}
 use Rattle.std.specs.Str.{bytes_eq}
 use Rattle.formulas.specs.Reading.{Outcome, parsed, Reader, bind, a_number}
 use Rattle.lines.specs.declared.faults.LineFault.{LineFault}
@@ -64,8 +64,3 @@ days_among (queue k) = []
 abbrev pub days_in : Answer Opening → List (ℕ × ℕ)
 days_in (refused e) = []
 days_in (accepted o) = days_among o
-
--- a setting was read to the end of its line as x, with its dates in the list
-pub record ReadAs (o : Outcome Opening) (x : Setting) (ds : List (ℕ × ℕ)) : Type 0 where
-  pub is : o ≡ parsed (opening_for x ds) []
-  pub holds : ds ≡ days_among (opening_for x ds)

@@ -1,34 +1,44 @@
 // Reads the first word of a line.
+ghost use Rattle.std.specs.Prelude.{◌≡◌, ◌<◌, ◌≤◌, length};
 ghost use Rattle.std.specs.Result.{MatchResult};
+ghost use Rattle.lexer.specs.Tokens.{pieces_from};
 ghost use Rattle.formulas.specs.Steps.{Failed};
 ghost use Rattle.lines.specs.Faults.{of_line};
-ghost use Rattle.lines.specs.Firsts.{first_word, Begun};
+ghost use Rattle.lines.specs.Reading.{the_beginning};
+ghost use Rattle.lines.specs.Firsts.{Begun};
 
 use crate::faults::LineFault;
-use lexer::tokens::{MAX_LINE, Token, next};
+use lexer::cursor::Cursor;
+use lexer::tokens::{MAX_LINE, Token};
 
-// A line's first word, with its column and the index after it.
-#[derive(Clone, Copy)]
+// A line's first word, with its column.
+#[derive(Clone, Copy, Debug, PartialEq, Eq)]
 pub struct FirstWord<'a> {
     pub word: &'a [u8],
     pub column: usize,
-    pub after: usize,
 }
 
-// The first word of a line that is not too long.
-pub fn first_word(line: &[u8]) -> Result<FirstWord<'_>, LineFault>
-    ensures { MatchResult result (λ x. Begun line.now x) (λ e. Failed (first_word line.now) (of_line e)) }
+// The beginning of a line that is not too long.
+pub fn start(line: &[u8]) -> Result<Cursor<'_>, LineFault>
+    ensures starts_a_short_line { MatchResult result (λ c. (length line.now ≤ 200) × (c ≡ pieces_from line.now 0)) (λ e. (200 < length line.now) × (e ≡ LineFault.Long)) }
 {
     if line.len() > MAX_LINE {
         return Err(LineFault::Long);
     }
-    let x = next(line, 0)?;
+    Ok(Cursor::new(line))
+}
+
+// The first word of the line that the cursor stands at the start of.
+#[tactic(auto, unfolding(crate::specs::Reading::the_beginning))]
+pub fn first_word<'a>(cursor: &mut Cursor<'a>) -> Result<FirstWord<'a>, LineFault>
+    ensures reads_a_word { MatchResult result (λ x. Begun cursor.old x cursor.new) (λ e. Failed (the_beginning cursor.old) (of_line e)) }
+{
+    let x = cursor.next_token()?;
     match x.token {
         Token::Word(word) => Ok(FirstWord {
             word,
             column: x.column,
-            after: x.after,
         }),
-        Token::Number(_) | Token::Sign(_) | Token::End => Err(LineFault::Word(x.column)),
+        Token::Number { .. } | Token::Sign(_) | Token::End => Err(LineFault::Word(x.column)),
     }
 }

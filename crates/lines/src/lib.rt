@@ -4,6 +4,6 @@
 pub mod calls;
 pub mod dates;
 pub mod faults;
-mod firsts;
+pub mod firsts;
 mod readers;
 pub mod settings;

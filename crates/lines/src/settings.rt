@@ -1,19 +1,19 @@
 // Reads a setting line.
 ghost use Rattle.std.specs.Prelude.{◌≡◌, ◌≤◌, [], length, MatchResult};
-ghost use Rattle.lexer.specs.Tokens.{pieces_from};
 ghost use Rattle.formulas.specs.Faults.{of_formula};
+ghost use Rattle.formulas.specs.Reading.{parsed};
 ghost use Rattle.formulas.specs.Steps.{Failed};
 ghost use Rattle.lines.specs.Faults.{of_line};
-ghost use Rattle.lines.specs.Dates.{days_of, count};
-ghost use Rattle.lines.specs.Settings.{setting_word, setting_rest, ReadAs, setting_of, opening_of, read_setting, days_in};
+ghost use Rattle.lines.specs.Dates.{days_of};
+ghost use Rattle.lines.specs.Settings.{setting_word, setting_rest, opening_for, setting_of, opening_of, read_setting, days_in};
 
 use crate::dates::DateList;
 use crate::faults::LineFault;
-use crate::firsts::first_word;
+use crate::firsts::{first_word, start};
 use crate::readers::{all_dates, last_number};
 use formulas::faults::FormulaFault;
 use formulas::parts::number;
-use lexer::words::same;
+use lexer::cursor::Cursor;
 
 // What a first line sets: pairs by a low number and a sum, a list of dates, or agents in a circle or a queue.
 #[derive(Clone, Copy, Debug, PartialEq, Eq)]
@@ -25,7 +25,7 @@ pub enum Setting {
 }
 
 // The words that a first line may begin with.
-#[derive(Clone, Copy)]
+#[derive(Clone, Copy, Debug, PartialEq, Eq)]
 pub enum SettingWord {
     Pairs,
     Dates,
@@ -34,61 +34,60 @@ pub enum SettingWord {
 }
 
 // The word of a setting, if it is one.
+#[tactic(auto, unfolding(crate::specs::Settings::setting_word))]
 fn setting_word(word: &[u8]) -> Option<SettingWord>
     ensures { result ≡ setting_word word.now }
 {
-    if same(word, b"pairs") {
+    if word == b"pairs".as_slice() {
         Some(SettingWord::Pairs)
-    } else if same(word, b"dates") {
+    } else if word == b"dates".as_slice() {
         Some(SettingWord::Dates)
-    } else if same(word, b"circle") {
+    } else if word == b"circle".as_slice() {
         Some(SettingWord::Circle)
-    } else if same(word, b"queue") {
+    } else if word == b"queue".as_slice() {
         Some(SettingWord::Queue)
     } else {
         None
     }
 }
 
-// What follows the word of a setting; its dates go into an empty list.
+// What follows the word of a setting; the list holds its dates, if it is for dates.
 fn setting_rest(
-    line: &[u8],
-    from: usize,
+    cursor: &mut Cursor<'_>,
     word: SettingWord,
     dates: &mut DateList,
 ) -> Result<Setting, FormulaFault>
-    requires { (from ≤ length line.now) × ((length line.now ≤ 200) × ((days_of dates.old ≡ []) × (count dates.old ≡ 0))) }
-    ensures { MatchResult result (λ x. ReadAs (setting_rest word (pieces_from line.now from)) x (days_of dates.new)) (λ e. Failed (setting_rest word (pieces_from line.now from)) (of_formula e)) }
+    requires { length cursor.old ≤ 201 }
+    ensures { MatchResult result (λ x. setting_rest word cursor.old ≡ parsed (opening_for x (days_of dates.new)) []) (λ e. Failed (setting_rest word cursor.old) (of_formula e)) }
 {
     match word {
         SettingWord::Pairs => {
-            let (low, after) = number(line, from)?;
-            let sum = last_number(line, after)?;
+            let low = number(cursor)?;
+            let sum = last_number(cursor)?;
             Ok(Setting::Pairs { low, sum })
         }
         SettingWord::Dates => {
-            all_dates(line, from, dates)?;
+            all_dates(cursor, dates)?;
             Ok(Setting::Dates)
         }
         SettingWord::Circle => Ok(Setting::Circle {
-            agents: last_number(line, from)?,
+            agents: last_number(cursor)?,
         }),
         SettingWord::Queue => Ok(Setting::Queue {
-            agents: last_number(line, from)?,
+            agents: last_number(cursor)?,
         }),
     }
 }
 
-// A setting line, its dates into an empty list.
+// A setting line.
+#[tactic(auto, using(crate::proofs::Starts::first_long, crate::proofs::Starts::first_short, crate::proofs::Starts::pieces_few))]
 fn setting_in(line: &[u8], dates: &mut DateList) -> Result<Setting, LineFault>
-    requires { (days_of dates.old ≡ []) × (count dates.old ≡ 0) }
-    ensures { MatchResult result (λ x. ReadAs (setting_of line.now) x (days_of dates.new)) (λ e. Failed (setting_of line.now) (of_line e)) }
+    ensures { MatchResult result (λ x. setting_of line.now ≡ parsed (opening_for x (days_of dates.new)) []) (λ e. Failed (setting_of line.now) (of_line e)) }
 {
-    let first = first_word(line)?;
-    match setting_word(first.word) {
-        Some(word) => Ok(setting_rest(line, first.after, word, dates)?),
-        None => Err(LineFault::Word(first.column)),
-    }
+    let mut cursor = start(line)?;
+    let first = first_word(&mut cursor)?;
+    let word = setting_word(first.word).ok_or(LineFault::Word(first.column))?;
+    Ok(setting_rest(&mut cursor, word, dates)?)
 }
 
 // Reads a first line. The list then holds its dates, and none where the line is refused or lists none.
@@ -96,9 +95,8 @@ pub fn read_setting(line: &[u8], dates: &mut DateList) -> Result<Setting, LineFa
     ensures answers_the_line { opening_of result (days_of dates.new) ≡ read_setting line.now }
     ensures holds_its_dates { days_of dates.new ≡ days_in (read_setting line.now) }
 {
-    dates.clear();
     let answer = setting_in(line, dates);
-    if answer.is_err() {
+    if !matches!(answer, Ok(Setting::Dates)) {
         dates.clear();
     }
     answer
