@@ -1,11 +1,11 @@
 -- The dates of a line, one after another.
-use Rattle.std.proofs.Common.{◌≡◌, ℕ, ◌+◌, ◌<◌, ◌≤◌, Bool, true, false, ◌&&◌, List, [], ◌∷◌, ◌++◌, map, length, get_or, take, drop, sym, ap, ◌∙◌, ap₂}
+use Rattle.std.proofs.Common.{◌≡◌, ℕ, ◌+◌, ◌<◌, ◌≤◌, Bool, true, ◌&&◌, List, [], ◌∷◌, ◌++◌, map, length, get_or, take, drop, sym, ap, ◌∙◌, ap₂}
 use Rattle.std.proofs.lemmas.List.{drop_more, drop_all, map_more, map-append}
 use Rattle.settings.specs.declared.dates.Date.{Date}
 use Rattle.settings.specs.Dates.{is_date, are_dates}
 use Rattle.settings.specs.Readings.{date_numbers}
-use Rattle.text.specs.declared.dates.MonthDay.{MonthDay}
-use Rattle.text.specs.Dates.{month_day}
+use Rattle.lines.specs.declared.dates.MonthDay.{MonthDay}
+use Rattle.lines.specs.Dates.{month_day}
 
 module _ (days : List MonthDay) (i : ℕ) where
   -- what the date at hand decides

@@ -3,7 +3,7 @@ use Rattle.std.proofs.Common.{◌≡◌, ℕ, zero, suc, ◌+◌, ◌<◌, ◌�
 use borrow.Author.Tests.{ltb-false}
 use Rattle.std.specs.List.{position, position_or_len}
 use Rattle.model.specs.Meaning.{Meaning}
-use Rattle.text.specs.Lines.{read_call}
+use Rattle.text.specs.Calls.{read_call}
 use Rattle.listing.specs.Outcomes.{Entry}
 use Rattle.listing.specs.Lines.{onto, lines_of, blank}
 use Rattle.listing.specs.Listing.{Filled, answered, entries_from, first_filled}

@@ -10,8 +10,9 @@ use Rattle.settings.specs.Pairs.{pairs, fill_answer, laid, filled, pairs_meaning
 use Rattle.settings.specs.Dates.{are_dates, dates_meaning, dates_of}
 use Rattle.settings.specs.Readings.{date_numbers}
 use Rattle.settings.proofs.Listing.{admitted, count_step}
-use Rattle.text.specs.declared.lines.Setting.{Setting}
-use Rattle.text.specs.Lines.{Opening, Answer, accepted, opening_for, read_setting}
+use Rattle.lines.specs.declared.settings.Setting.{Setting}
+use Rattle.lines.specs.Firsts.{Answer, accepted}
+use Rattle.lines.specs.Settings.{Opening, opening_for, read_setting}
 use Rattle.listing.specs.Listing.{played, model_of, plays, sets, of_refusal}
 
 -- what a test answers is a value where it holds, and a refusal where it does not

@@ -1,5 +1,5 @@
 -- What the program's values say of a line.
-use Rattle.text.specs.Faults.{of_line}
+use Rattle.lines.specs.Faults.{of_line}
 use Rattle.listing.specs.declared.outcomes.Refused.{Refused as Cause}
 use Rattle.listing.specs.declared.outcomes.Refused.TheVariants as cause
 use Rattle.listing.specs.declared.outcomes.Outcome.{Outcome as Finding}

@@ -1,7 +1,7 @@
 // What a listing says of a model.
 ghost use Rattle.std.specs.Prelude.{◌≡◌};
 ghost use Rattle.model.specs.Verdict.{verdict_of};
-ghost use Rattle.text.specs.Lines.{read_call};
+ghost use Rattle.text.specs.Calls.{read_call};
 ghost use Rattle.listing.specs.Findings.{header_of, quantities_at, outcome_of};
 ghost use Rattle.listing.specs.Listing.{answered};
 ghost use Rattle.listing.specs.Readings.{outcome_in, entry_in};
@@ -10,7 +10,7 @@ use crate::outcomes::{Entry, Header, Outcome, Quantities};
 use arrayvec::ArrayVec;
 use model::questions::Model;
 use model::verdict::{Verdict, verdict_on};
-use text::lines::{Call, read_call};
+use text::calls::{Call, read_call};
 
 // How many worlds, agents, facts and quantities the model has.
 pub fn header_for<M: Model>(model: &M) -> Header

@@ -1,15 +1,15 @@
 // What the listing says of a line, and how it is written.
 ghost use Rattle.std.specs.Prelude.{◌≡◌, Some};
-ghost use Rattle.text.specs.Faults.{of_line};
+ghost use Rattle.lines.specs.Faults.{of_line};
 ghost use Rattle.model.specs.Refusals.{number_of};
 ghost use Rattle.listing.specs.declared.outcomes.Refused.TheVariants.{Line, Setting};
 ghost use Rattle.listing.specs.Texts.{fields, placed, said, numbered, headed};
 ghost use Rattle.listing.specs.Readings.{refused_in, outcome_in, entry_in};
 
 use arrayvec::ArrayVec;
+use lines::faults::LineFault;
 use model::refusals::Refusal;
 use std::fmt;
-use text::faults::LineFault;
 
 // Why a line, or a whole text, is refused.
 #[derive(Clone, Copy, Debug, PartialEq, Eq)]

@@ -5,8 +5,8 @@ ghost use Rattle.settings.specs.Results.{on_ok};
 ghost use Rattle.settings.specs.Cases.{checked};
 ghost use Rattle.settings.specs.Dates.{are_dates};
 ghost use Rattle.settings.specs.Readings.{records as records_of, date_numbers};
-ghost use Rattle.text.specs.Dates.{month_day};
-ghost use Rattle.text.specs.Lines.{read_setting};
+ghost use Rattle.lines.specs.Dates.{month_day};
+ghost use Rattle.lines.specs.Settings.{read_setting};
 ghost use Rattle.listing.specs.Lines.{lines_left};
 ghost use Rattle.listing.specs.Listing.{sets};
 ghost use Rattle.listing.specs.Sheets.{page_of, settled};
@@ -15,6 +15,8 @@ use crate::outcomes::Refused;
 use crate::sheets::Sheet;
 use crate::texts::Lines;
 use crate::workspaces::Workspace;
+use lines::dates::{DateList, MonthDay};
+use lines::settings::{Setting, read_setting};
 use model::refusals::Refusal;
 use settings::cases::{CaseList, Cases, MAX_CASES};
 use settings::dates::Date;
@@ -23,8 +25,6 @@ use settings::pairs::Pair;
 use settings::pairs::filling::fill_pairs;
 use settings::sight::Sight;
 use std::alloc::{AllocError, Global};
-use text::dates::{DateList, MonthDay};
-use text::lines::{Setting, read_setting};
 
 // The dates of some numbers, in an empty list.
 fn fill_dates(dates: &mut Vec<Date>, days: &[MonthDay]) -> Result<(), Refusal>

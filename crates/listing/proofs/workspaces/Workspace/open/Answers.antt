@@ -7,7 +7,7 @@ use Rattle.settings.specs.Pairs.{fill_answer, pairs_meaning}
 use Rattle.settings.specs.Dates.{are_dates, dates_meaning}
 use Rattle.settings.specs.Readings.{numbers, date_numbers, records}
 use Rattle.settings.proofs.Meanings.{pairs_mean, dates_mean}
-use Rattle.text.specs.Dates.{month_day, days_of}
+use Rattle.lines.specs.Dates.{month_day, days_of}
 use Rattle.listing.specs.Lines.{lines_left}
 use Rattle.listing.proofs.Settling.{held, failed, fair, is_fair, counted, pairs_front, dated, asked, pairs_refused, pairs_played, dates_bad, dates_refused, dates_played}
 use Rattle.listing.proofs.workspaces.Workspace.open.Goals as goal

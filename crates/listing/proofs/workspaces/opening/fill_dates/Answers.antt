@@ -4,8 +4,8 @@ use Rattle.std.proofs.lemmas.List.{take_all}
 use Rattle.std.proofs.lemmas.Bool.{cond-true, cond-false, true≢false}
 use Rattle.model.specs.declared.refusals.Refusal.TheVariants.{BadDate}
 use Rattle.settings.specs.Dates.{is_date, are_dates}
-use Rattle.text.specs.declared.dates.MonthDay.{MonthDay}
-use Rattle.text.specs.Dates.{month_day}
+use Rattle.lines.specs.declared.dates.MonthDay.{MonthDay}
+use Rattle.lines.specs.Dates.{month_day}
 use Rattle.listing.proofs.Settling.{held, failed}
 use Rattle.listing.proofs.Dating.{dates_at, dates_end, dates_pushed}
 use Rattle.listing.proofs.workspaces.opening.fill_dates.Goals as goal

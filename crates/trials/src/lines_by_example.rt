@@ -1,8 +1,9 @@
 // What is answered to a line: 0 and 0 where it is accepted, else the fault's number and column.
+use lines::dates::DateList;
+use lines::faults::LineFault;
+use lines::settings::read_setting;
 use std::test::Fail;
-use text::dates::DateList;
-use text::faults::LineFault;
-use text::lines::{read_call, read_setting};
+use text::calls::read_call;
 
 const SETTINGS: [(&str, u16, usize); 66] = [
     ("pairs 2 100", 0, 0),
