@@ -1,41 +1,19 @@
 -- The dates of a line, one after another.
-use Rattle.std.proofs.Common.{◌≡◌, ℕ, ◌+◌, ◌<◌, ◌≤◌, Bool, true, false, cond, ◌&&◌, List, [], ◌∷◌, ◌++◌, map, length, get_or, take, drop, Ok, Err, sym, refl, ap, ◌∙◌, ap₂, arith}
+use Rattle.std.proofs.Common.{◌≡◌, ℕ, ◌+◌, ◌<◌, ◌≤◌, Bool, true, ◌&&◌, List, [], ◌∷◌, ◌++◌, map, length, get_or, take, drop, sym, ap, ◌∙◌, ap₂}
 use Rattle.std.proofs.lemmas.List.{drop_more, drop_all, map_more, map-append}
-use Rattle.model.specs.declared.refusals.Refusal.{Refusal}
-use Rattle.model.specs.declared.refusals.Refusal.TheVariants.{BadDate}
 use Rattle.settings.specs.declared.dates.Date.{Date}
-use Rattle.settings.specs.Dates.{is_date, date_of, are_dates}
+use Rattle.settings.specs.Dates.{is_date, are_dates}
 use Rattle.settings.specs.Readings.{date_numbers}
-use Rattle.text.specs.declared.dates.MonthDay.{MonthDay}
-use Rattle.text.specs.Dates.{month_day}
-
--- a date that was made, and one that was refused
-pub made_date : (d x : ℕ × ℕ) → Ok x ≡ date_of d → (is_date d ≡ true) × (x ≡ d)
-made_date d x e = go (is_date d) e
-  where
-    go : (b : Bool) → Ok x ≡ cond b (Ok d) (Err BadDate) → (b ≡ true) × (x ≡ d)
-    go true e = (refl, cc)
-    go false e = let z : ◌≡◌ {A = ℕ} 0 1 = cc in absurd (omega arith)
-
-pub no_date : (d : ℕ × ℕ) (r : Refusal) → Err r ≡ date_of d → (is_date d ≡ false) × (r ≡ BadDate)
-no_date d r e = go (is_date d) e
-  where
-    go : (b : Bool) → Err r ≡ cond b (Ok d) (Err BadDate) → (b ≡ false) × (r ≡ BadDate)
-    go true e = let z : ◌≡◌ {A = ℕ} 0 1 = cc in absurd (omega arith)
-    go false e = (refl, cc)
+use Rattle.lines.specs.declared.dates.MonthDay.{MonthDay}
+use Rattle.lines.specs.Dates.{month_day}
 
 module _ (days : List MonthDay) (i : ℕ) where
-  pub dates_more : (d : MonthDay) → i < length days → is_date (month_day (get_or days i d)) ≡ true → are_dates (map month_day (drop i days)) ≡ are_dates (map month_day (drop (i + 1) days))
+  -- what the date at hand decides
+  pub dates_at : (d : MonthDay) (b : Bool) → i < length days → is_date (month_day (get_or days i d)) ≡ b → are_dates (map month_day (drop i days)) ≡ (b && are_dates (map month_day (drop (i + 1) days)))
   unfolding are_dates
-  dates_more d h e =
+  dates_at d b h e =
       ap (λ (l : List MonthDay). are_dates (map month_day l)) (drop_more days i d h)
-      ∙ ap (λ (b : Bool). b && are_dates (map month_day (drop (i + 1) days))) e
-
-  pub dates_bad : (d : MonthDay) → i < length days → is_date (month_day (get_or days i d)) ≡ false → are_dates (map month_day (drop i days)) ≡ false
-  unfolding are_dates
-  dates_bad d h e =
-      ap (λ (l : List MonthDay). are_dates (map month_day l)) (drop_more days i d h)
-      ∙ ap (λ (b : Bool). b && are_dates (map month_day (drop (i + 1) days))) e
+      ∙ ap (λ (t : Bool). t && are_dates (map month_day (drop (i + 1) days))) e
 
   pub dates_end : length days ≤ i → are_dates (map month_day (drop i days)) ≡ true
   unfolding are_dates

@@ -3,9 +3,11 @@ use Rattle.std.proofs.Common.{◌≡◌, ℕ, ◌+◌, ◌≤◌, Bool, true, fa
 use Rattle.std.proofs.lemmas.Bool.{le-ltb, cond-false}
 use Rattle.model.specs.declared.refusals.Refusal.{Refusal}
 use Rattle.model.specs.Meaning.{Meaning}
-use Rattle.text.specs.Lines as said
-use Rattle.listing.specs.declared.entries.Entry.{Entry}
+use Rattle.lines.specs.Firsts.{Answer, refused, accepted}
+use Rattle.lines.specs.Settings as setting
+use Rattle.text.specs.Calls as call
 use Rattle.listing.specs.declared.outcomes.Header.{Header}
+use Rattle.listing.specs.Outcomes.{Entry}
 use Rattle.listing.specs.Lines.{onto, lines_of, blank}
 use Rattle.listing.specs.Listing.{Page, Filled, answered, entries_from, first_filled, model_of, plays, sets, begun, opened, page}
 use Rattle.listing.specs.Laws.{GoesOn, StaysRefused}
@@ -32,7 +34,7 @@ lines_both (b ∷ bs) more = at (eqb b 10) (lines_of bs) (some_line bs) (lines_b
 entries_both : (m : Meaning) (n : ℕ) (ls more : List (List ℕ)) → entries_from m n (ls ++ more) ≡ entries_from m n ls ++ entries_from m (n + length ls) more
 unfolding entries_from
 entries_both m n [] more = ap (λ (k : ℕ). entries_from m k more) (sym (add-zero n))
-entries_both m n (l ∷ ls) more = at (record { number = n; outcome = answered m (said.read_call l) }) (blank l) (entries_both m (n + 1) ls more ∙ ap (λ (k : ℕ). entries_from m (n + 1) ls ++ entries_from m k more) next)
+entries_both m n (l ∷ ls) more = at (record { number = n; outcome = answered m (call.read_call l) }) (blank l) (entries_both m (n + 1) ls more ∙ ap (λ (k : ℕ). entries_from m (n + 1) ls ++ entries_from m k more) next)
   where
     next : n + 1 + length ls ≡ n + length (l ∷ ls)
     next = omega arith
@@ -86,19 +88,19 @@ module _ (n : ℕ) (ls more : List (List ℕ)) where
   begun_on k (Ok m) h e = (m, λ i. record { header = e i; entries = entries_both m n ls more i })
   begun_on k (Err r) h e = absurd (none_some e)
 
-  sets_on : (k : ℕ) (a : said.Answer said.Opening) (h : Header) → (begun k (sets a n ls)).header ≡ Some h
+  sets_on : (k : ℕ) (a : Answer setting.Opening) (h : Header) → (begun k (sets a n ls)).header ≡ Some h
       → (m : Meaning) × (begun k (sets a n (ls ++ more)) ≡ record { header = Some h; entries = (begun k (sets a n ls)).entries ++ entries_from m (n + length ls) more })
-  sets_on k (said.refused f) h e = absurd (none_some e)
-  sets_on k (said.accepted o) h e = begun_on k (model_of o) h e
+  sets_on k (refused f) h e = absurd (none_some e)
+  sets_on k (accepted o) h e = begun_on k (model_of o) h e
 
   -- a page with none stays
   begun_stays : (k : ℕ) (r : Result Meaning Refusal) → (begun k (plays r n ls)).header ≡ None → begun k (plays r n (ls ++ more)) ≡ begun k (plays r n ls)
   begun_stays k (Ok m) e = absurd (none_some (sym e))
   begun_stays k (Err r) e = refl
 
-  sets_stays : (k : ℕ) (a : said.Answer said.Opening) → (begun k (sets a n ls)).header ≡ None → begun k (sets a n (ls ++ more)) ≡ begun k (sets a n ls)
-  sets_stays k (said.refused f) e = refl
-  sets_stays k (said.accepted o) e = begun_stays k (model_of o) e
+  sets_stays : (k : ℕ) (a : Answer setting.Opening) → (begun k (sets a n ls)).header ≡ None → begun k (sets a n (ls ++ more)) ≡ begun k (sets a n ls)
+  sets_stays k (refused f) e = refl
+  sets_stays k (accepted o) e = begun_stays k (model_of o) e
 
 module _ (text more : List ℕ) (short : length (text ++ 10 ∷ more) ≤ 16384) where
   short_text : length text ≤ 16384
@@ -114,11 +116,11 @@ module _ (text more : List ℕ) (short : length (text ++ 10 ∷ more) ≤ 16384)
     on : (h : Header) → (page text).header ≡ Some h
         → (m : Meaning) × (page (text ++ 10 ∷ more) ≡ record { header = Some h; entries = (page text).entries ++ entries_from m (1 + length (lines_of text)) (lines_of more) })
     on h e =
-        let y = sets_on (x.number + 1) x.rest (lines_of more) x.number (said.read_setting x.line) h (ap (λ (p : Page). p.header) (sym before) ∙ e) in
+        let y = sets_on (x.number + 1) x.rest (lines_of more) x.number (setting.read_setting x.line) h (ap (λ (p : Page). p.header) (sym before) ∙ e) in
         (y.0, after ∙ y.1 ∙ ap₂ (λ (es : List Entry) (k : ℕ). record { header = Some h; entries = es ++ entries_from y.0 k (lines_of more) }) (ap (λ (p : Page). p.entries) (sym before)) (first_place 1 (lines_of text) x first))
 
     stays : (page text).header ≡ None → page (text ++ 10 ∷ more) ≡ page text
-    stays e = after ∙ sets_stays (x.number + 1) x.rest (lines_of more) x.number (said.read_setting x.line) (ap (λ (p : Page). p.header) (sym before) ∙ e) ∙ sym before
+    stays e = after ∙ sets_stays (x.number + 1) x.rest (lines_of more) x.number (setting.read_setting x.line) (ap (λ (p : Page). p.header) (sym before) ∙ e) ∙ sym before
 
 pub goes_on : GoesOn
 goes_on text more h short e = go (first_filled 1 (lines_of text)) refl

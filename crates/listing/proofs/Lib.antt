@@ -1,7 +1,5 @@
-pub mod Splits
-pub mod Fields
+pub mod Lines
 pub mod Printing
-pub mod Following
-pub mod Dating
 pub mod Settling
+pub mod Dating
 pub mod GoingOn

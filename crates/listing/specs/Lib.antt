@@ -1,6 +1,9 @@
 pub mod Lines
+pub mod Outcomes
 pub mod Texts
 pub mod Findings
 pub mod Listing
+pub mod Readings
+pub mod Walks
 pub mod Sheets
 pub mod Laws

@@ -1,5 +1,6 @@
 -- The lines of a text, and which of them are blank.
-use Rattle.std.specs.Prelude.{ℕ, ◌+◌, Bool, true, false, cond, List, [], ◌∷◌, length, Some, None, Option, ◌==◌}
+use Rattle.std.specs.Prelude.{ℕ, ◌+◌, Bool, cond, List, [], ◌∷◌, length, Some, None, Option, ◌==◌}
+use Rattle.std.specs.List.{list_all}
 use Rattle.std.specs.Borrow.{Bor}
 
 -- a byte before the first of some lines
@@ -14,8 +15,7 @@ lines_of (b ∷ bs) = cond (b == 10) ([] ∷ lines_of bs) (onto b (lines_of bs))
 
 -- spaces alone
 abbrev pub blank : List ℕ → Bool
-blank [] = true
-blank (b ∷ bs) = cond (b == 32) (blank bs) false
+blank l = list_all (λ b. b == 32) l
 
 -- the lines of the text that is left, if any is
 abbrev pub lines_left : Option (Bor (List ℕ)) → List (List ℕ)

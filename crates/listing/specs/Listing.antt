@@ -8,13 +8,12 @@ use Rattle.settings.specs.declared.sight.Sight.TheVariants.{Circle, Queue}
 use Rattle.settings.specs.Hats.{hats_of}
 use Rattle.settings.specs.Pairs.{pairs_of}
 use Rattle.settings.specs.Dates.{dates_of}
-use Rattle.text.specs.Faults.{Fault}
-use Rattle.text.specs.Lines as said
-use Rattle.listing.specs.declared.entries.Entry.{Entry}
+use Rattle.lexer.specs.Faults.{Fault}
+use Rattle.lines.specs.Firsts.{Answer, refused, accepted}
+use Rattle.lines.specs.Settings as setting
+use Rattle.text.specs.Calls as call
 use Rattle.listing.specs.declared.outcomes.Header.{Header}
-use Rattle.listing.specs.declared.outcomes.Refused.{Refused}
-use Rattle.listing.specs.declared.outcomes.Outcome.{Outcome}
-use Rattle.listing.specs.declared.outcomes.Outcome.TheVariants as outcome
+use Rattle.listing.specs.Outcomes.{Refused, Outcome, refusal, Entry}
 use Rattle.listing.specs.Findings.{header_of, outcome_of}
 use Rattle.listing.specs.Lines.{blank, lines_of}
 use Rattle.listing.specs.Texts.{heading, printed}
@@ -37,28 +36,28 @@ pub record Page : Type 0 where
 
 -- a listing of one refusal, at line n
 abbrev pub refusing : ℕ → Refused → Page
-refusing n r = record { header = None; entries = record { number = n; outcome = outcome.Refusal r } ∷ [] }
+refusing n r = record { header = None; entries = record { number = n; outcome = refusal r } ∷ [] }
 
 -- what is said of a later line
-abbrev pub answered : Meaning → said.Answer said.Request → Outcome
-answered m (said.refused f) = outcome.Refusal (of_fault f)
-answered m (said.accepted said.verdict) = outcome_of m (verdict_of m)
+abbrev pub answered : Meaning → Answer call.Request → Outcome
+answered m (refused f) = refusal (of_fault f)
+answered m (accepted call.verdict) = outcome_of m (verdict_of m)
 
 -- an entry for each line that is not blank, the first of the lines having number n
 unfoldable pub entries_from : Meaning → ℕ → List (List ℕ) → List Entry
 entries_from m n [] = []
-entries_from m n (l ∷ ls) = cond (blank l) (entries_from m (n + 1) ls) (record { number = n; outcome = answered m (said.read_call l) } ∷ entries_from m (n + 1) ls)
+entries_from m n (l ∷ ls) = cond (blank l) (entries_from m (n + 1) ls) (record { number = n; outcome = answered m (call.read_call l) } ∷ entries_from m (n + 1) ls)
 
 -- the page of a model, and of the lines from number n on
 abbrev pub played : Meaning → ℕ → List (List ℕ) → Page
 played m n ls = record { header = Some (header_of m); entries = entries_from m n ls }
 
 -- the model that a setting asks for
-abbrev pub model_of : said.Opening → Result Meaning Refusal
-model_of (said.pairs low sum) = pairs_of low sum
-model_of (said.dates ds) = dates_of ds
-model_of (said.circle k) = hats_of Circle k
-model_of (said.queue k) = hats_of Queue k
+abbrev pub model_of : setting.Opening → Result Meaning Refusal
+model_of (setting.pairs low sum) = pairs_of low sum
+model_of (setting.dates ds) = dates_of ds
+model_of (setting.circle k) = hats_of Circle k
+model_of (setting.queue k) = hats_of Queue k
 
 -- the page of a setting, if there is a model for it
 abbrev pub plays : Result Meaning Refusal → ℕ → List (List ℕ) → Result Page Refused
@@ -66,9 +65,9 @@ plays (Ok m) n ls = Ok (played m n ls)
 plays (Err r) n ls = Err (of_refusal r)
 
 -- the page of a setting line, if it is accepted
-abbrev pub sets : said.Answer said.Opening → ℕ → List (List ℕ) → Result Page Refused
-sets (said.refused f) n ls = Err (of_fault f)
-sets (said.accepted o) n ls = plays (model_of o) n ls
+abbrev pub sets : Answer setting.Opening → ℕ → List (List ℕ) → Result Page Refused
+sets (refused f) n ls = Err (of_fault f)
+sets (accepted o) n ls = plays (model_of o) n ls
 
 -- a setting that is refused ends the listing, with its line's number
 abbrev pub begun : ℕ → Result Page Refused → Page
@@ -88,7 +87,7 @@ first_filled n (l ∷ ls) = cond (blank l) (first_filled (n + 1) ls) (Some (reco
 -- that line is the setting; a text with no such line is refused whole
 abbrev pub opened : Option Filled → Page
 opened None = refusing 0 (refused_for 17 0)
-opened (Some x) = begun x.number (sets (said.read_setting x.line) (x.number + 1) x.rest)
+opened (Some x) = begun x.number (sets (setting.read_setting x.line) (x.number + 1) x.rest)
 
 -- the page of a puzzle text, which has at most 16,384 bytes
 abbrev pub page : List ℕ → Page

@@ -1,11 +1,16 @@
 // What a listing says of a model.
 ghost use Rattle.std.specs.Prelude.{◌≡◌};
 ghost use Rattle.model.specs.Verdict.{verdict_of};
+ghost use Rattle.text.specs.Calls.{read_call};
 ghost use Rattle.listing.specs.Findings.{header_of, quantities_at, outcome_of};
+ghost use Rattle.listing.specs.Listing.{answered};
+ghost use Rattle.listing.specs.Readings.{outcome_in, entry_in};
 
-use crate::outcomes::{Header, MAX_QUANTITIES, Outcome, Quantities};
+use crate::outcomes::{Entry, Header, Outcome, Quantities};
+use arrayvec::ArrayVec;
 use model::questions::Model;
 use model::verdict::{Verdict, verdict_on};
+use text::calls::{Call, read_call};
 
 // How many worlds, agents, facts and quantities the model has.
 pub fn header_for<M: Model>(model: &M) -> Header
@@ -21,21 +26,18 @@ pub fn header_for<M: Model>(model: &M) -> Header
 
 // The quantities' values at a world.
 pub fn quantities_for<M: Model>(model: &M, world: u16) -> Quantities
-    ensures asks_each_quantity { result ≡ quantities_at (M.meaning model.now) world }
+    ensures asks_each_quantity { result.values.items ≡ quantities_at (M.meaning model.now) world }
 {
-    let mut values = [0; MAX_QUANTITIES];
-    for quantity in 0..MAX_QUANTITIES {
-        values[quantity] = model.quantity(quantity as u16, world);
+    let mut values = ArrayVec::new();
+    for quantity in 0..model.quantities() {
+        values.push(model.quantity(quantity, world));
     }
-    Quantities {
-        values,
-        count: model.quantities(),
-    }
+    Quantities { values }
 }
 
 // The model's verdict, as the listing says it.
 pub fn finding_for<M: Model>(model: &M) -> Outcome
-    ensures reports_the_verdict { result ≡ outcome_of (M.meaning model.now) (verdict_of (M.meaning model.now)) }
+    ensures reports_the_verdict { outcome_in result ≡ outcome_of (M.meaning model.now) (verdict_of (M.meaning model.now)) }
 {
     match verdict_on(model) {
         Verdict::Contradiction => Outcome::Contradiction,
@@ -53,4 +55,22 @@ pub fn finding_for<M: Model>(model: &M) -> Outcome
             second,
         },
     }
+}
+
+// What is said of one line.
+pub fn answer_line<M: Model>(model: &M, line: &[u8]) -> Outcome
+    ensures answers_the_line { outcome_in result ≡ answered (M.meaning model.now) (read_call line.now) }
+{
+    match read_call(line) {
+        Ok(Call::Verdict) => finding_for(model),
+        Err(fault) => Outcome::Refusal(fault.into()),
+    }
+}
+
+// The entry of a line that is not blank.
+pub fn entry_for<M: Model>(model: &M, number: u32, line: &[u8]) -> Entry
+    ensures lists_the_line { entry_in result ≡ record { number = number; outcome = answered (M.meaning model.now) (read_call line.now) } }
+{
+    let outcome = answer_line(model, line);
+    Entry { number, outcome }
 }

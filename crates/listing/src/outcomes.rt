@@ -1,28 +1,37 @@
 // What the listing says of a line, and how it is written.
-ghost use Rattle.std.specs.Prelude.{◌≡◌, take, Some};
-ghost use Rattle.std.specs.Fmt.{WritesOnOk};
-ghost use Rattle.listing.specs.Texts.{fields, said, headed};
+ghost use Rattle.std.specs.Prelude.{◌≡◌, Some};
+ghost use Rattle.lines.specs.Faults.{of_line};
+ghost use Rattle.model.specs.Refusals.{number_of};
+ghost use Rattle.listing.specs.declared.outcomes.Refused.TheVariants.{Line, Setting};
+ghost use Rattle.listing.specs.Texts.{fields, placed, said, numbered, headed};
+ghost use Rattle.listing.specs.Readings.{refused_in, outcome_in, entry_in};
 
+use arrayvec::ArrayVec;
+use lines::faults::LineFault;
+use model::refusals::Refusal;
 use std::fmt;
 
-// A refusal by its number, with its column from 1, or 0 where it has none.
+// Why a line, or a whole text, is refused.
 #[derive(Clone, Copy, Debug, PartialEq, Eq)]
-pub struct Refused {
-    pub number: u16,
-    pub column: usize,
+pub enum Refused {
+    // A text of too many bytes.
+    LongText,
+    // A text with no line but blank ones.
+    NoSetting,
+    Line(LineFault),
+    Setting(Refusal),
 }
 
 // The most quantities that a model has.
 pub const MAX_QUANTITIES: usize = 8;
 
-// The values of at most eight quantities.
-#[derive(Clone, Copy, Debug, PartialEq, Eq)]
+// The values of a world's quantities.
+#[derive(Drop, Debug, PartialEq, Eq)]
 pub struct Quantities {
-    pub values: [u16; 8],
-    pub count: u16,
+    pub values: ArrayVec<u16, MAX_QUANTITIES>,
 }
 
-#[derive(Clone, Copy, Debug, PartialEq, Eq)]
+#[derive(Drop, Debug, PartialEq, Eq)]
 pub enum Outcome {
     Contradiction,
     Unique {
@@ -37,6 +46,13 @@ pub enum Outcome {
     Refusal(Refused),
 }
 
+// A line of the listing.
+#[derive(Drop, Debug, PartialEq, Eq)]
+pub struct Entry {
+    pub number: u32,
+    pub outcome: Outcome,
+}
+
 // The first line of a listing: how many worlds, agents, facts and quantities there are.
 #[derive(Clone, Copy, Debug, PartialEq, Eq)]
 pub struct Header {
@@ -46,30 +62,71 @@ pub struct Header {
     pub quantities: u16,
 }
 
-impl fmt::Display for Quantities {
-    ghost output = { λ q. Some (fields (take q.count q.values)) };
+impl From<LineFault> for Refused {
+    ghost from_gives = { λ e r. r ≡ Line e };
+
+    fn from(fault: LineFault) -> Refused {
+        Refused::Line(fault)
+    }
+}
+
+impl From<Refusal> for Refused {
+    ghost from_gives = { λ e r. r ≡ Setting e };
+
+    fn from(refusal: Refusal) -> Refused {
+        Refused::Setting(refusal)
+    }
+}
+
+impl Refused {
+    // The number under which it is listed.
+    pub fn number(self) -> u16
+        ensures is_its_number { result ≡ (refused_in self).number }
+    {
+        match self {
+            Refused::LongText => 10,
+            Refused::NoSetting => 17,
+            Refused::Line(fault) => fault.number(),
+            Refused::Setting(refusal) => refusal.number(),
+        }
+    }
+
+    // Its column from 1, or 0 where it has none.
+    pub fn column(self) -> usize
+        ensures is_its_column { result ≡ (refused_in self).column }
+    {
+        match self {
+            Refused::Line(fault) => fault.column(),
+            Refused::LongText | Refused::NoSetting | Refused::Setting(_) => 0,
+        }
+    }
+}
+
+impl fmt::Display for Refused {
+    ghost output = { λ r. Some (placed (refused_in r)) };
 
     fn fmt<W: fmt::Write>(&self, f: &mut fmt::Formatter<W>) -> fmt::Result {
-        let count = (self.count as usize).min(MAX_QUANTITIES);
-        write_fields(f, &self.values[0..count])
+        write!(f, "{} {}", self.number(), self.column())
     }
 }
 
 // Numbers, each after a space.
-fn write_fields<W: fmt::Write>(f: &mut fmt::Formatter<W>, values: &[u16]) -> fmt::Result
-    ensures { WritesOnOk W.Write.write_str_gives f.old result (fields values.now) f.new }
-{
-    for value in values {
-        write!(f, " {value}")?;
+impl fmt::Display for Quantities {
+    ghost output = { λ q. Some (fields q.values.items) };
+
+    fn fmt<W: fmt::Write>(&self, f: &mut fmt::Formatter<W>) -> fmt::Result {
+        for value in self.values.as_slice() {
+            write!(f, " {value}")?;
+        }
+        Ok(())
     }
-    Ok(())
 }
 
 impl fmt::Display for Outcome {
-    ghost output = { λ o. Some (said o) };
+    ghost output = { λ o. Some (said (outcome_in o)) };
 
     fn fmt<W: fmt::Write>(&self, f: &mut fmt::Formatter<W>) -> fmt::Result {
-        match *self {
+        match self {
             Outcome::Contradiction => write!(f, "none"),
             Outcome::Unique { world, quantities } => write!(f, "unique {world}{quantities}"),
             Outcome::Rivals {
@@ -77,8 +134,17 @@ impl fmt::Display for Outcome {
                 lowest,
                 second,
             } => write!(f, "rivals {count} {lowest} {second}"),
-            Outcome::Refusal(Refused { number, column }) => write!(f, "refused {number} {column}"),
+            Outcome::Refusal(refused) => write!(f, "refused {refused}"),
         }
+    }
+}
+
+impl fmt::Display for Entry {
+    ghost output = { λ e. Some (numbered (entry_in e)) };
+
+    fn fmt<W: fmt::Write>(&self, f: &mut fmt::Formatter<W>) -> fmt::Result {
+        let Entry { number, outcome } = self;
+        write!(f, "{number} {outcome}")
     }
 }
 

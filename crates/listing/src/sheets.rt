@@ -1,8 +1,7 @@
 // A listing before it is text, in memory that is reserved first.
 ghost use Rattle.std.specs.Prelude.{◌≤◌, vec_capacity};
 
-use crate::entries::Entry;
-use crate::outcomes::Header;
+use crate::outcomes::{Entry, Header};
 
 pub mod filling;
 

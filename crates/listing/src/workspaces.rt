@@ -1,9 +1,9 @@
 // The memory in which settings are made, reserved first.
 ghost use Rattle.std.specs.Prelude.{◌≡◌, ◌≤◌, vec_len, vec_capacity};
 
+use lines::dates::DateList;
 use settings::dates::Date;
 use settings::pairs::Pair;
-use text::dates::DateList;
 
 pub mod opening;
 

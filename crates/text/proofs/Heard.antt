@@ -1,10 +1,11 @@
 -- What each reader gives where the pieces begin as it wants them.
 use Rattle.std.proofs.Common.{◌≡◌, ℕ, List, [], ◌∷◌, Some, Option, ap, ◌∙◌, arith}
-use Rattle.text.specs.Bytes.{value_of}
-use Rattle.text.specs.Tokens.{Piece, number, word, done, Placed}
-use Rattle.text.specs.Reading.{parsed, Reader, bind, at, number_or, a_number, last_number, end_in, the_end, before, dates_after, the_dates, beginning_in, the_beginning, rest_of, following}
+use Rattle.lexer.specs.Bytes.{value_of}
+use Rattle.lexer.specs.Tokens.{Piece, number, word, done, Placed}
+use Rattle.formulas.specs.Reading.{parsed, Reader, bind, at, number_or, a_number, end_in, the_end}
+use Rattle.lines.specs.Reading.{last_number, before, dates_after, the_dates, beginning_in, the_beginning, rest_of, following}
 use Rattle.text.specs.Laws.{bare, Lists, no_more, one_more}
-use Rattle.text.proofs.Readings.{day_step}
+use Rattle.lines.proofs.Readings.{day_step}
 
 some_piece : (q : Piece) (qs : List Piece) → [] ≡ q ∷ qs → ⊥
 some_piece q qs e = let z : ◌≡◌ {A = ℕ} 0 1 = cc in omega arith

@@ -1,9 +1,4 @@
-pub mod Scans
-pub mod Firsts
-pub mod Readings
-pub mod Dating
-pub mod Picks
 pub mod Said
 pub mod Heard
 pub mod Whole
-pub mod Tiling
+pub mod Steps

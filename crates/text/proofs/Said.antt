@@ -1,11 +1,12 @@
 -- What each reader has read where it gives a value: the pieces that it passed, without their columns.
 use Rattle.std.proofs.Common.{◌≡◌, ℕ, zero, suc, ◌+◌, Bool, true, false, cond, List, [], ◌∷◌, drop, Some, None, Option, sym, refl, ap, subst, arith}
-use Rattle.text.specs.declared.tokens.Class.TheVariants.{Space, Digit, Letter}
-use Rattle.text.specs.declared.tokens.Sign.{Sign}
-use Rattle.text.specs.Bytes.{belongs, sign_of, value_of}
-use Rattle.text.specs.Tokens.{Piece, number, word, sign, bad, done, Placed, piece_at, mark, more, scan, pieces_from}
-use Rattle.text.specs.Faults.{Fault}
-use Rattle.text.specs.Reading.{Outcome, fault, parsed, Reader, bind, at, number_or, a_number, end_in, the_end, before, dates_after, Beginning, beginning_in, the_beginning, rest_of, following}
+use Rattle.lexer.specs.declared.tokens.Class.TheVariants.{Space, Digit, Letter}
+use Rattle.lexer.specs.declared.tokens.Sign.{Sign}
+use Rattle.lexer.specs.Bytes.{belongs, sign_of, value_of}
+use Rattle.lexer.specs.Tokens.{Piece, number, word, sign, bad, done, Placed, piece_at, mark, more, scan, pieces_from}
+use Rattle.lexer.specs.Faults.{Fault}
+use Rattle.formulas.specs.Reading.{Outcome, fault, parsed, Reader, bind, at, number_or, a_number, end_in, the_end}
+use Rattle.lines.specs.Reading.{before, dates_after, Beginning, beginning_in, the_beginning, rest_of, following}
 use Rattle.text.specs.Laws.{bare, Lists, no_more, one_more}
 
 -- nothing comes after the end
@@ -43,7 +44,7 @@ scan_closed (suc k) c (b ∷ bs) = scan_closed k (c + 1) bs
 
 pub pieces_closed : (line : List ℕ) (at : ℕ) → Closed (pieces_from line at)
 unfolding pieces_from
-pieces_closed line at = scan_closed 0 (at + 1) (drop at line)
+pieces_closed line at = scan_closed 0 _ (drop at line)
 
 module _ {X : Type 0} where
   -- a fault gives nothing

@@ -3,16 +3,17 @@ use Rattle.std.proofs.Common.{◌≡◌, ℕ, ◌≤◌, leb, List, [], ◌∷�
 use Rattle.std.specs.Str.{bytes_eq}
 use Rattle.std.proofs.lemmas.Slice.Eq.{bytes_eq-Decides}
 use Rattle.std.proofs.lemmas.Bool.{cond-true, le-leb}
-use Rattle.text.specs.declared.lines.SettingWord.{SettingWord}
-use Rattle.text.specs.declared.lines.SettingWord.TheVariants as sets
-use Rattle.text.specs.declared.lines.CallWord.{CallWord}
-use Rattle.text.specs.declared.lines.CallWord.TheVariants as asks
-use Rattle.text.specs.Bytes.{value_of}
-use Rattle.text.specs.Tokens.{Piece, number, word, done, Placed, pieces_from}
-use Rattle.text.specs.Reading.{Outcome, fault, parsed, Reader, bind, a_number, last_number, the_end, the_dates, the_beginning, following}
-use Rattle.text.specs.Lines.{Opening, pairs, dates, circle, queue, Request, verdict, setting_word, setting_rest, call_word, call_rest, first_word, accepted, answer}
+use Rattle.lines.specs.declared.settings.SettingWord.{SettingWord}
+use Rattle.lines.specs.declared.settings.SettingWord.TheVariants as sets
+use Rattle.lexer.specs.Bytes.{value_of}
+use Rattle.lexer.specs.Tokens.{Piece, number, word, done, Placed, pieces_from}
+use Rattle.formulas.specs.Reading.{Outcome, fault, parsed, Reader, bind, a_number, the_end}
+use Rattle.lines.specs.Reading.{last_number, the_dates, the_beginning, following}
+use Rattle.lines.specs.Firsts.{first_word, accepted, answer}
+use Rattle.lines.specs.Settings.{Opening, pairs, dates, circle, queue, setting_word, setting_rest}
+use Rattle.text.specs.Calls.{Request, verdict, call_word, call_rest}
 use Rattle.text.specs.Laws.{bare, Says, says_pairs, says_dates, says_circle, says_queue, Asks, asks_verdict, LinesRead}
-use Rattle.text.proofs.Picks.{chosen, none}
+use Rattle.lexer.proofs.Picks.{chosen, none}
 use Rattle.text.proofs.Said.{Closed, pieces_closed, bind_said, number_said, end_said, dates_said, line_said}
 use Rattle.text.proofs.Heard.{number_heard, end_heard, last_heard, dates_heard, line_heard}
 
@@ -23,8 +24,8 @@ set_by sets.Dates = codes "dates"
 set_by sets.Circle = codes "circle"
 set_by sets.Queue = codes "queue"
 
-abbrev asked_by : CallWord → List ℕ
-asked_by asks.Verdict = codes "verdict"
+abbrev asked_by : Request → List ℕ
+asked_by verdict = codes "verdict"
 
 setting_known : (w : List ℕ) (v : SettingWord) → setting_word w ≡ Some v → w ≡ set_by v
 unfolding setting_word
@@ -41,13 +42,13 @@ set_known sets.Dates = refl
 set_known sets.Circle = refl
 set_known sets.Queue = refl
 
-call_known : (w : List ℕ) (v : CallWord) → call_word w ≡ Some v → w ≡ asked_by v
+call_known : (w : List ℕ) (v : Request) → call_word w ≡ Some v → w ≡ asked_by v
 unfolding call_word
-call_known w v = chosen (w ≡ asked_by v) (bytes_eq w (codes "verdict")) asks.Verdict None v (λ t e. (bytes_eq-Decides w (codes "verdict")).0 t ∙ ap asked_by e) (none (w ≡ asked_by v) v)
+call_known w v = chosen (w ≡ asked_by v) (bytes_eq w (codes "verdict")) verdict None v (λ t e. (bytes_eq-Decides w (codes "verdict")).0 t ∙ ap asked_by e) (none (w ≡ asked_by v) v)
 
-asked_known : (v : CallWord) → call_word (asked_by v) ≡ Some v
+asked_known : (v : Request) → call_word (asked_by v) ≡ Some v
 unfolding call_word
-asked_known asks.Verdict = refl
+asked_known verdict = refl
 
 says_as : (o x : Opening) (qs rs : List Piece) → o ≡ x → qs ≡ rs → Says o qs → Says x rs
 says_as o x qs rs p q s = subst (λ y. Says y rs) p (subst (λ l. Says o l) q s)
@@ -108,8 +109,8 @@ a_setting_heard (says_queue {k}) ps e =
 asks_as : (q x : Request) (qs rs : List Piece) → q ≡ x → qs ≡ rs → Asks q qs → Asks x rs
 asks_as q x qs rs p e s = subst (λ y. Asks y rs) p (subst (λ l. Asks q l) e s)
 
-call_said : (v : CallWord) (ps : List Placed) (q : Request) (left : List Placed) → Closed ps → call_rest v ps ≡ parsed q left → Asks q (word (asked_by v) ∷ bare ps)
-call_said asks.Verdict ps q left h e =
+call_said : (v : Request) (ps : List Placed) (q : Request) (left : List Placed) → Closed ps → call_rest v ps ≡ parsed q left → Asks q (word (asked_by v) ∷ bare ps)
+call_said verdict ps q left h e =
     let a = bind_said (the_end ps) (λ _. parsed verdict) q left e in
     let all : parsed verdict a.1 ≡ parsed q left = a.3 in
     let x : verdict ≡ q = cc in
@@ -122,7 +123,7 @@ a_call_said ps q left h e =
 
 a_call_heard : {q : Request} {qs : List Piece} → Asks q qs → (ps : List Placed) → bare ps ≡ qs → following call_word call_rest (the_beginning ps) ≡ parsed q []
 a_call_heard asks_verdict ps e =
-    let a = line_heard call_word call_rest ps (codes "verdict") (done ∷ []) asks.Verdict e (asked_known asks.Verdict) in
+    let a = line_heard call_word call_rest ps (codes "verdict") (done ∷ []) verdict e (asked_known verdict) in
     a.1 ∙ ap (λ x. bind x (λ _. parsed verdict)) (end_heard a.0 a.2)
 
 module _ {W X : Type 0} (known : List ℕ → Option W) (rest : W → Reader X) (line : List ℕ) (x : X) (short : length line ≤ 200) where

@@ -1,8 +1,10 @@
 -- Which lines are accepted: those whose tokens are a word and its numbers, and nothing else.
 use Rattle.std.specs.Prelude.{◌≡◌, ℕ, ◌≤◌, List, [], ◌∷◌, map, length, codes}
-use Rattle.text.specs.Bytes.{value_of}
-use Rattle.text.specs.Tokens.{Piece, number, word, done, Placed, pieces_from}
-use Rattle.text.specs.Lines.{Opening, pairs, dates, circle, queue, Request, verdict, accepted, read_setting, read_call}
+use Rattle.lexer.specs.Bytes.{value_of}
+use Rattle.lexer.specs.Tokens.{Piece, number, word, done, Placed, pieces_from}
+use Rattle.lines.specs.Firsts.{accepted}
+use Rattle.lines.specs.Settings.{Opening, pairs, dates, circle, queue, read_setting}
+use Rattle.text.specs.Calls.{Request, verdict, read_call}
 
 -- pieces without their columns
 abbrev pub bare : List Placed → List Piece

@@ -1,9 +1,2 @@
-pub mod Bytes
-pub mod Tokens
-pub mod Faults
-pub mod Dates
-pub mod Reading
-pub mod Steps
-pub mod Lines
+pub mod Calls
 pub mod Laws
-pub mod Tiles

@@ -1,9 +1,4 @@
-// Reads the lines of a puzzle text.
+// Reads the later lines of a puzzle text.
 #![tactic(auto)]
 
-pub mod dates;
-pub mod faults;
-pub mod lines;
-mod readers;
-pub mod tokens;
-mod words;
+pub mod calls;

@@ -2,7 +2,7 @@
 #![tactic(auto)]
 
 #[cfg(test)]
-mod lines;
+mod lines_by_example;
 #[cfg(test)]
 mod marks_by_example;
 #[cfg(test)]

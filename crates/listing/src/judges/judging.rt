@@ -4,26 +4,15 @@ ghost use Rattle.listing.specs.Listing.{page, listing, written};
 ghost use Rattle.listing.specs.Sheets.{page_of};
 
 use crate::judges::Judge;
-use crate::openings::finding::find_opening;
 use crate::outcomes::Refused;
 use crate::sheets::Sheet;
+use crate::texts::Lines;
 use crate::workspaces::Workspace;
 use std::alloc::{AllocError, Global};
 use std::fmt;
 
 // The most bytes that a puzzle text may have.
 pub const MAX_TEXT: usize = 16384;
-
-// A text that is too long, and one with no line but blank ones.
-const LONG_TEXT: Refused = Refused {
-    number: 10,
-    column: 0,
-};
-
-const NO_SETTING: Refused = Refused {
-    number: 17,
-    column: 0,
-};
 
 impl Judge {
     // Reserves all memory that any text needs. The listing is empty until a text is judged.
@@ -42,14 +31,15 @@ impl Judge {
         ensures prints_the_listing { written (page_of self.new.sheet) ≡ listing text.now }
     {
         if text.len() > MAX_TEXT {
-            self.sheet.refuse(0, LONG_TEXT);
+            self.sheet.refuse(0, Refused::LongText);
             return;
         }
-        match find_opening(text) {
-            None => self.sheet.refuse(0, NO_SETTING),
-            Some(opening) => {
-                if let Err(refused) = self.workspace.open(&mut self.sheet, opening) {
-                    self.sheet.refuse(opening.number, refused);
+        let mut lines = Lines::of(text);
+        match lines.next() {
+            None => self.sheet.refuse(0, Refused::NoSetting),
+            Some((number, line)) => {
+                if let Err(refused) = self.workspace.open(&mut self.sheet, line, lines) {
+                    self.sheet.refuse(number, refused);
                 }
             }
         }

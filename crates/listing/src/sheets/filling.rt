@@ -1,13 +1,15 @@
 // Filling a sheet, and writing it.
-ghost use Rattle.std.specs.Prelude.{◌≡◌, ◌+◌, ◌<◌, ◌≤◌, [], ◌∷◌, ◌++◌, IfOk, Some, None, vec_len};
-ghost use Rattle.std.specs.Fmt.{WritesOnOk};
-ghost use Rattle.listing.specs.Texts.{heading, numbered, printed};
-ghost use Rattle.listing.specs.Listing.{refusing, written};
+ghost use Rattle.std.specs.Prelude.{◌≡◌, [], IfOk, Some, None};
+ghost use Rattle.listing.specs.Lines.{lines_left};
+ghost use Rattle.listing.specs.Listing.{played, refusing, written};
+ghost use Rattle.listing.specs.Readings.{refused_in};
 ghost use Rattle.listing.specs.Sheets.{page_of};
 
-use crate::entries::Entry;
-use crate::outcomes::{Header, Outcome, Refused};
+use crate::findings::{entry_for, header_for};
+use crate::outcomes::{Entry, Outcome, Refused};
 use crate::sheets::Sheet;
+use crate::texts::Lines;
+use model::questions::Model;
 use std::alloc::{AllocError, Global};
 use std::fmt;
 
@@ -25,28 +27,20 @@ impl Sheet {
         })
     }
 
-    // Begins a listing whose setting was accepted.
-    pub fn begin(&mut self, header: Header)
-        ensures holds_the_header { page_of self.new ≡ record { header = Some header; entries = [] } }
-        ensures is_empty { vec_len self.new.entries ≡ 0 }
+    // The listing of a model and of the lines after its setting.
+    pub fn list<M: Model>(&mut self, model: &M, lines: Lines<'_>)
+        ensures holds_the_page { page_of self.new ≡ played (M.meaning model.now) lines.entry.number (lines_left lines.entry.rest) }
     {
+        self.header = Some(header_for(model));
         self.entries.clear();
-        self.header = Some(header);
-    }
-
-    // One entry more, where there is room.
-    pub(crate) fn add(&mut self, entry: Entry)
-        requires has_room { vec_len self.old.entries < 16385 }
-        ensures holds_the_entry { self.new.entries.items ≡ self.old.entries.items ++ «entry» ∷ [] }
-        ensures holds_one_more { vec_len self.new.entries ≡ vec_len self.old.entries + 1 }
-        ensures keeps_the_header { self.new.header ≡ self.old.header }
-    {
-        self.entries.push_reserved(entry);
+        for (number, line) in lines {
+            self.entries.push_reserved(entry_for(model, number, line));
+        }
     }
 
     // A listing of one refusal.
     pub fn refuse(&mut self, number: u32, refused: Refused)
-        ensures holds_the_refusal { page_of self.new ≡ refusing number refused }
+        ensures holds_the_refusal { page_of self.new ≡ refusing number (refused_in refused) }
     {
         self.entries.clear();
         self.header = None;
@@ -57,36 +51,16 @@ impl Sheet {
     }
 }
 
-fn write_entry<W: fmt::Write>(f: &mut fmt::Formatter<W>, entry: Entry) -> fmt::Result
-    ensures { WritesOnOk W.Write.write_str_gives f.old result (numbered entry) f.new }
-{
-    let Entry { number, outcome } = entry;
-    writeln!(f, "{number} {outcome}")
-}
-
-fn write_entries<W: fmt::Write>(f: &mut fmt::Formatter<W>, entries: &[Entry]) -> fmt::Result
-    ensures { WritesOnOk W.Write.write_str_gives f.old result (printed entries.now) f.new }
-{
-    for entry in entries {
-        write_entry(f, *entry)?;
-    }
-    Ok(())
-}
-
-fn write_header<W: fmt::Write>(f: &mut fmt::Formatter<W>, header: Option<Header>) -> fmt::Result
-    ensures { WritesOnOk W.Write.write_str_gives f.old result (heading header) f.new }
-{
-    match header {
-        Some(header) => writeln!(f, "{header}"),
-        None => Ok(()),
-    }
-}
-
 impl fmt::Display for Sheet {
     ghost output = { λ s. Some (written (page_of s)) };
 
     fn fmt<W: fmt::Write>(&self, f: &mut fmt::Formatter<W>) -> fmt::Result {
-        write_header(f, self.header)?;
-        write_entries(f, self.entries.as_slice())
+        if let Some(header) = self.header {
+            writeln!(f, "{header}")?;
+        }
+        for entry in self.entries.as_slice() {
+            writeln!(f, "{entry}")?;
+        }
+        Ok(())
     }
 }

@@ -1,21 +1,22 @@
 // Makes the model that a setting line asks for, and lists the lines after it.
-ghost use Rattle.std.specs.Prelude.{◌≡◌, ◌+◌, ◌≤◌, true, map, length, if◌then◌else◌, Ok, Err, vec_len, vec_capacity};
+ghost use Rattle.std.specs.Prelude.{◌≡◌, ◌≤◌, true, map, length, if◌then◌else◌, Ok, Err, vec_capacity};
 ghost use Rattle.model.specs.declared.refusals.Refusal.TheVariants.{BadDate};
-ghost use Rattle.settings.specs.Hats.{hats_of};
-ghost use Rattle.settings.specs.Pairs.{pairs_of};
-ghost use Rattle.settings.specs.Dates.{are_dates, dates_of};
-ghost use Rattle.settings.specs.Readings.{date_numbers};
-ghost use Rattle.text.specs.Dates.{month_day, days_of};
-ghost use Rattle.listing.specs.Lines.{lines_left, size_left};
-ghost use Rattle.text.specs.Lines.{read_setting};
-ghost use Rattle.listing.specs.Listing.{plays, sets};
+ghost use Rattle.settings.specs.Results.{on_ok};
+ghost use Rattle.settings.specs.Cases.{checked};
+ghost use Rattle.settings.specs.Dates.{are_dates};
+ghost use Rattle.settings.specs.Readings.{records as records_of, date_numbers};
+ghost use Rattle.lines.specs.Dates.{month_day};
+ghost use Rattle.lines.specs.Settings.{read_setting};
+ghost use Rattle.listing.specs.Lines.{lines_left};
+ghost use Rattle.listing.specs.Listing.{sets};
 ghost use Rattle.listing.specs.Sheets.{page_of, settled};
 
-use crate::openings::Opening;
 use crate::outcomes::Refused;
-use crate::playing::play;
 use crate::sheets::Sheet;
+use crate::texts::Lines;
 use crate::workspaces::Workspace;
+use lines::dates::{DateList, MonthDay};
+use lines::settings::{Setting, read_setting};
 use model::refusals::Refusal;
 use settings::cases::{CaseList, Cases, MAX_CASES};
 use settings::dates::Date;
@@ -24,8 +25,6 @@ use settings::pairs::Pair;
 use settings::pairs::filling::fill_pairs;
 use settings::sight::Sight;
 use std::alloc::{AllocError, Global};
-use text::dates::{DateList, MonthDay};
-use text::lines::{Setting, read_setting};
 
 // The dates of some numbers, in an empty list.
 fn fill_dates(dates: &mut Vec<Date>, days: &[MonthDay]) -> Result<(), Refusal>
@@ -41,55 +40,11 @@ fn fill_dates(dates: &mut Vec<Date>, days: &[MonthDay]) -> Result<(), Refusal>
     Ok(())
 }
 
-// Agents in a circle or a queue.
-fn open_hats(
-    sheet: &mut Sheet,
-    opening: Opening<'_>,
-    sight: Sight,
-    agents: u16,
-) -> Result<(), Refused>
-    requires is_small { opening.number + 1 + size_left opening.rest ≤ 16386 }
-    ensures settles { settled result (page_of sheet.new) ≡ plays (hats_of sight agents) (opening.entry.number + 1) (lines_left opening.entry.rest) }
+// The list of the records, as a model.
+fn cases_of<R>(records: &[R]) -> Result<Cases<'_, R>, Refusal>
+    ensures checks_the_list { on_ok (λ c. records_of c.list) result ≡ checked records.now }
 {
-    let hats = Hats::new(sight, agents)?;
-    play(sheet, &hats, opening.number + 1, opening.rest);
-    Ok(())
-}
-
-// All number pairs within bounds.
-fn open_pairs(
-    sheet: &mut Sheet,
-    opening: Opening<'_>,
-    places: &mut [Pair],
-    low: u16,
-    sum: u16,
-) -> Result<(), Refused>
-    requires is_small { opening.number + 1 + size_left opening.rest ≤ 16386 }
-    requires has_places { length places.old ≡ 4096 }
-    ensures settles { settled result (page_of sheet.new) ≡ plays (pairs_of low sum) (opening.entry.number + 1) (lines_left opening.entry.rest) }
-{
-    let count = fill_pairs(places, low, sum)?;
-    let list = CaseList::check(&places[0..count])?;
-    play(sheet, &Cases::new(list), opening.number + 1, opening.rest);
-    Ok(())
-}
-
-// A list of dates.
-fn open_dates(
-    sheet: &mut Sheet,
-    opening: Opening<'_>,
-    dates: &mut Vec<Date>,
-    days: &DateList,
-) -> Result<(), Refused>
-    requires is_small { opening.number + 1 + size_left opening.rest ≤ 16386 }
-    requires has_room { 4096 ≤ vec_capacity dates.old }
-    ensures keeps_its_room { vec_capacity dates.new ≡ vec_capacity dates.old }
-    ensures settles { settled result (page_of sheet.new) ≡ plays (dates_of (days_of days.now)) (opening.entry.number + 1) (lines_left opening.entry.rest) }
-{
-    fill_dates(dates, days.as_slice())?;
-    let list = CaseList::check(dates.as_slice())?;
-    play(sheet, &Cases::new(list), opening.number + 1, opening.rest);
-    Ok(())
+    Ok(Cases::new(CaseList::check(records)?))
 }
 
 impl Workspace {
@@ -103,21 +58,33 @@ impl Workspace {
     }
 
     // Lists the lines after the setting line, over the model that it asks for.
-    pub(crate) fn open(&mut self, sheet: &mut Sheet, opening: Opening<'_>) -> Result<(), Refused>
-        requires is_small { opening.number + 1 + size_left opening.rest ≤ 16386 }
-        ensures settles { settled result (page_of sheet.new) ≡ sets (read_setting opening.entry.line.now) (opening.entry.number + 1) (lines_left opening.entry.rest) }
+    pub(crate) fn open(
+        &mut self,
+        sheet: &mut Sheet,
+        line: &[u8],
+        lines: Lines<'_>,
+    ) -> Result<(), Refused>
+        ensures settles { settled result (page_of sheet.new) ≡ sets (read_setting line.now) lines.entry.number (lines_left lines.entry.rest) }
     {
-        match read_setting(opening.line, &mut self.days)? {
-            Setting::Pairs { low, sum } => open_pairs(
-                sheet,
-                opening,
-                self.pairs.as_mut_slice(),
-                low,
-                sum,
-            ),
-            Setting::Dates => open_dates(sheet, opening, &mut self.dates, &self.days),
-            Setting::Circle { agents } => open_hats(sheet, opening, Sight::Circle, agents),
-            Setting::Queue { agents } => open_hats(sheet, opening, Sight::Queue, agents),
+        match read_setting(line, &mut self.days)? {
+            Setting::Pairs { low, sum } => {
+                let count = fill_pairs(self.pairs.as_mut_slice(), low, sum)?;
+                sheet.list(&cases_of(&self.pairs[..count])?, lines);
+                Ok(())
+            }
+            Setting::Dates => {
+                fill_dates(&mut self.dates, self.days.as_slice())?;
+                sheet.list(&cases_of(self.dates.as_slice())?, lines);
+                Ok(())
+            }
+            Setting::Circle { agents } => {
+                sheet.list(&Hats::new(Sight::Circle, agents)?, lines);
+                Ok(())
+            }
+            Setting::Queue { agents } => {
+                sheet.list(&Hats::new(Sight::Queue, agents)?, lines);
+                Ok(())
+            }
         }
     }
 }

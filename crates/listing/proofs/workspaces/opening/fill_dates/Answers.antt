@@ -1,12 +1,13 @@
-use Rattle.std.proofs.Common.{map, get_or, Ok, Err, sym, ap, ◌∙◌, arith}
+use Rattle.std.proofs.Common.{true, false, map, get_or, Ok, Err, sym, ap, ◌∙◌, arith}
 use Rattle.std.proofs.lemmas.Result.{err_from_is_err_and}
 use Rattle.std.proofs.lemmas.List.{take_all}
 use Rattle.std.proofs.lemmas.Bool.{cond-true, cond-false, true≢false}
 use Rattle.model.specs.declared.refusals.Refusal.TheVariants.{BadDate}
-use Rattle.settings.specs.Dates.{are_dates}
-use Rattle.text.specs.declared.dates.MonthDay.{MonthDay}
-use Rattle.text.specs.Dates.{month_day}
-use Rattle.listing.proofs.Dating.{made_date, no_date, dates_more, dates_bad, dates_end, dates_pushed}
+use Rattle.settings.specs.Dates.{is_date, are_dates}
+use Rattle.lines.specs.declared.dates.MonthDay.{MonthDay}
+use Rattle.lines.specs.Dates.{month_day}
+use Rattle.listing.proofs.Settling.{held, failed}
+use Rattle.listing.proofs.Dating.{dates_at, dates_end, dates_pushed}
 use Rattle.listing.proofs.workspaces.opening.fill_dates.Goals as goal
 
 -- the numbers at hand
@@ -17,8 +18,8 @@ pub returns-in_err-new : goal.returns-in_err-new
 returns-in_err-new c =
     let days = c.args.days.now in
     let i = c.loop-day.day-index in
-    let bad = no_date (month_day (get_or days i first)) c.in_err-new.field-0.0 c.in_err-new.ensures.is_of_its_numbers in
-    let none = c.loop-day.invariant.1 ∙ dates_bad days i first c.loop-day-test.true bad.0 in
+    let bad = failed (is_date (month_day (get_or days i first))) (month_day (get_or days i first)) BadDate c.in_err-new.field-0.0 c.in_err-new.ensures.is_of_its_numbers in
+    let none = c.loop-day.invariant.1 ∙ dates_at days i first false c.loop-day-test.true bad.0 in
     let p = err_from_is_err_and c.from_residual.result c.from_residual.ensures.1 in
     record {
       keeps_its_room = c.loop-day.invariant.3 ∙ c.clear.ensures.capacity;
@@ -30,9 +31,9 @@ pub loop-day-preserved : goal.loop-day-preserved
 loop-day-preserved c =
     let days = c.args.days.now in
     let i = c.loop-day.day-index in
-    let good = made_date (month_day (get_or days i first)) _ c.in_ok-new.ensures.is_of_its_numbers in (
+    let good = held (is_date (month_day (get_or days i first))) _ (month_day (get_or days i first)) BadDate c.in_ok-new.ensures.is_of_its_numbers in (
       dates_pushed days i first _ _ _ c.loop-day-test.true c.loop-day.invariant.0 good.1 c.push_reserved.ensures.items,
-      c.loop-day.invariant.1 ∙ dates_more days i first c.loop-day-test.true good.0,
+      c.loop-day.invariant.1 ∙ dates_at days i first true c.loop-day-test.true good.0,
       omega arith,
       c.push_reserved.ensures.capacity ∙ c.loop-day.invariant.3,
     )

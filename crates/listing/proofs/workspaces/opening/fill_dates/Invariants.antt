@@ -1,7 +1,7 @@
 use Rattle.std.proofs.Common.{◌≡◌, map, take, drop, vec_items, vec_len, vec_capacity}
 use Rattle.settings.specs.Dates.{are_dates}
 use Rattle.settings.specs.Readings.{date_numbers}
-use Rattle.text.specs.Dates.{month_day}
+use Rattle.lines.specs.Dates.{month_day}
 use Rattle.listing.proofs.workspaces.opening.fill_dates.Given as goal
 
 -- the numbers so far are dates and stand in the list

@@ -1,0 +1,20 @@
+use Rattle.std.proofs.Common.{sym, ap, ◌∙◌, arith}
+use Rattle.listing.specs.Lines.{lines_left, size_left}
+use Rattle.listing.proofs.Lines.{passes, finds, none_left}
+use Rattle.listing.proofs.texts.walking.LinesIterator.next.Goals as goal
+
+pub returns-then-not-is_blank-clause-steps : goal.returns-then-not-is_blank-clause-steps
+returns-then-not-is_blank-clause-steps c = record {
+  first = sym c.loop-self.invariant.0 ∙ finds c.loop-self.self.number _ _ _ (ap lines_left c.in-Some.is ∙ c.first_line.ensures.parts_the_text) (sym c.if-not-is_blank.ensures.tells_blank_lines);
+  next = omega arith;
+  less = omega (arith, ap size_left c.in-Some.is, c.first_line.ensures.leaves_less, c.loop-self.invariant.1);
+}
+
+pub loop-self-preserved : goal.loop-self-preserved
+loop-self-preserved c = (
+  passes c.loop-self.self.number _ _ _ (ap lines_left c.in-Some.is ∙ c.first_line.ensures.parts_the_text) (sym c.if-not-is_blank.ensures.tells_blank_lines) ∙ c.loop-self.invariant.0,
+  omega (arith, ap size_left c.in-Some.is, c.first_line.ensures.leaves_less, c.loop-self.invariant.1),
+)
+
+pub returns-clause-steps : goal.returns-clause-steps
+returns-clause-steps c = sym c.loop-self.invariant.0 ∙ none_left c.loop-self.self.number _ (ap lines_left c.in_default.is)

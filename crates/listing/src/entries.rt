@@ -1,8 +1,0 @@
-// A line of the listing.
-use crate::outcomes::Outcome;
-
-#[derive(Clone, Copy)]
-pub struct Entry {
-    pub number: u32,
-    pub outcome: Outcome,
-}

@@ -1,5 +1,0 @@
-use Rattle.text.proofs.Whole.{lines_read}
-use Rattle.text.proofs.lines.lines_are_read_whole.Goals as goal
-
-pub returns : goal.returns
-returns c = record { reads_whole_lines = lines_read }

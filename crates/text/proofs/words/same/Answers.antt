@@ -1,7 +1,0 @@
-use Rattle.std.proofs.lemmas.Slice.Eq.{slice_eq-Decides, bytes_eq-Decides}
-use Rattle.std.proofs.lemmas.Bool.Decides.{same_from_decides, Decides-eqb}
-use Rattle.std.specs.Str.{bytes_eq}
-use Rattle.text.proofs.words.same.Goals as goal
-
-pub returns : goal.returns
-returns c = same_from_decides _ (bytes_eq c.args.word.now c.args.text.now) (slice_eq-Decides Decides-eqb c.args.word.now c.args.text.now _ c.eq.ensures) (bytes_eq-Decides c.args.word.now c.args.text.now)
