@@ -7,11 +7,11 @@ ghost use Rattle.formulas.specs.Parsers.{Parsed};
 
 use crate::faults::FormulaFault;
 use crate::nodes::NodeList;
-use crate::nodes::writing::node;
 use crate::parts::{expect_sign, number, perhaps_sign};
 use crate::words::{Keyword, keyword_of};
 use lexer::cursor::Cursor;
 use lexer::tokens::{Sign, Token};
+use theory::node::Shape;
 
 // One level down, if there is one; else the token at the column opens a level too many.
 fn deeper(levels: u8, column: usize) -> Result<u8, FormulaFault>
@@ -52,7 +52,7 @@ impl<'r, 'a> Parser<'r, 'a> {
             let a = self.nodes.last();
             self.term(levels)?;
             let b = self.nodes.last();
-            self.nodes.put(node(4, a, b, 0));
+            self.nodes.put(Shape::Both(a, b));
         }
         Ok(())
     }
@@ -89,7 +89,7 @@ impl<'r, 'a> Parser<'r, 'a> {
     {
         self.term(deeper(levels, column)?)?;
         let a = self.nodes.last();
-        self.nodes.put(node(3, a, 0, 0));
+        self.nodes.put(Shape::Not(a));
         Ok(())
     }
 
@@ -102,7 +102,7 @@ impl<'r, 'a> Parser<'r, 'a> {
         let agent = number(self.cursor)?;
         self.term(inner)?;
         let b = self.nodes.last();
-        self.nodes.put(node(5, agent, b, 0));
+        self.nodes.put(Shape::Knows(agent, b));
         Ok(())
     }
 
@@ -124,7 +124,7 @@ impl<'r, 'a> Parser<'r, 'a> {
         expect_sign(self.cursor, Sign::Dot)?;
         let quantity = number(self.cursor)?;
         match perhaps_sign(self.cursor, Sign::Slash)? {
-            None => self.nodes.put(node(0, 0, 0, 0)),
+            None => self.nodes.put(Shape::Top),
             Some(slash) => self.term(deeper(levels, slash)?)?,
         }
         self.nodes.put_value(agent, quantity);
@@ -137,19 +137,19 @@ impl<'r, 'a> Parser<'r, 'a> {
     {
         match keyword_of(text) {
             Some(Keyword::True) => {
-                self.nodes.put(node(0, 0, 0, 0));
+                self.nodes.put(Shape::Top);
                 Ok(())
             }
             Some(Keyword::Fact) => {
                 let fact = number(self.cursor)?;
-                self.nodes.put(node(1, fact, 0, 0));
+                self.nodes.put(Shape::Fact(fact));
                 Ok(())
             }
             Some(Keyword::Quantity) => {
                 let quantity = number(self.cursor)?;
                 expect_sign(self.cursor, Sign::Equals)?;
                 let amount = number(self.cursor)?;
-                self.nodes.put(node(2, quantity, amount, 0));
+                self.nodes.put(Shape::Equals(quantity, amount));
                 Ok(())
             }
             None => Err(FormulaFault::Place(column)),

@@ -1,21 +1,15 @@
 // What is done with a list of nodes.
 ghost use Rattle.std.specs.Prelude.{◌≡◌, ◌≤◌, false, [], length, IfOk};
+ghost use Rattle.theory.specs.Shapes.{node_of};
 ghost use Rattle.formulas.specs.Stores.{store_of, put, last, kept, or_nodes, and_then, node};
 ghost use Rattle.formulas.specs.Steps.{Keeps};
 
 use crate::nodes::NodeList;
 use std::alloc::{AllocError, Global};
-use theory::node::Node;
+use theory::node::{Node, Shape};
 
 // The most nodes that a list has.
 pub const MAX_NODES: usize = 4096;
-
-// A node by its fields.
-pub(crate) fn node(kind: u8, a: u16, b: u16, c: u16) -> Node
-    ensures { result ≡ node kind a b c }
-{
-    Node { kind, a, b, c }
-}
 
 impl NodeList {
     // An empty list, with all its places reserved.
@@ -62,14 +56,14 @@ impl NodeList {
         self.full = false;
     }
 
-    // Appends a node, if it finds a place.
+    // Appends the node that says this, if it finds a place.
     #[tactic(auto, unfolding(crate::specs::Stores::put))]
-    pub(crate) fn put(&mut self, node: Node)
-        ensures written { store_of self.new ≡ put (store_of self.old) node }
+    pub(crate) fn put(&mut self, shape: Shape)
+        ensures written { store_of self.new ≡ put (store_of self.old) (node_of shape) }
         ensures keeps { Keeps (store_of self.old) (store_of self.new) }
     {
         if self.items.len() < MAX_NODES {
-            self.items.push_reserved(node);
+            self.items.push_reserved(shape.into());
         } else {
             self.full = true;
         }
@@ -81,12 +75,12 @@ impl NodeList {
         ensures keeps { Keeps (store_of self.old) (store_of self.new) }
     {
         let b = self.last();
-        self.put(node(3, a, 0, 0));
-        self.put(node(3, b, 0, 0));
+        self.put(Shape::Not(a));
+        self.put(Shape::Not(b));
         let y = self.last();
-        self.put(node(4, y.saturating_sub(1), y, 0));
+        self.put(Shape::Both(y.saturating_sub(1), y));
         let x = self.last();
-        self.put(node(3, x, 0, 0));
+        self.put(Shape::Not(x));
     }
 
     // Appends a value node over the node written last.
@@ -95,6 +89,6 @@ impl NodeList {
         ensures keeps { Keeps (store_of self.old) (store_of self.new) }
     {
         let c = self.last();
-        self.put(node(6, agent, quantity, c));
+        self.put(Shape::Value(agent, quantity, c));
     }
 }

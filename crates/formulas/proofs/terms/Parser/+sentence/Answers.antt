@@ -1,10 +1,10 @@
-use Rattle.std.proofs.Common.{refl, ap, ◌∙◌, ⊎_elim}
+use Rattle.std.proofs.Common.{refl, ◌∙◌, ⊎_elim}
 use Rattle.std.proofs.lemmas.Result.{err_from_is_err_and}
 use Rattle.lexer.specs.declared.tokens.Sign.TheVariants.{And, Or}
 use Rattle.lexer.specs.declared.tokens.Token.TheVariants.{Sign, Number, End}
 use Rattle.formulas.specs.Readers.{term, conjunction, inner}
 use Rattle.formulas.specs.Sentences.{both, either}
-use Rattle.formulas.specs.Stores.{store_of, put}
+use Rattle.formulas.specs.Stores.{store_of}
 use Rattle.formulas.proofs.Chains.{found_some, found_none}
 use Rattle.formulas.proofs.Keep.{keeps_refl, keeps_trans}
 use Rattle.formulas.proofs.Steps.{term_first, term_bad, going_more, going_end, going_fault, going_breaks, both_written, either_written, misplaced}
@@ -44,7 +44,7 @@ conjunction-loop-column-preserved t c =
     let written = store_of c.term-in-Some.new.self.nodes.now in
     record {
       going = going_more And both (term c.args.levels) so_far.going c.in-Some._column c.perhaps_sign.new.cursor c.term-in-Some.new.self.cursor.now written (store_of c.put.new.self) some.0 some.1 next.reads
-          (λ f b m. both_written f _ b (store_of c.loop-column.self.nodes.now) written (store_of c.put.new.self) c.last-a.result c.last-b.result c.last-a.ensures.is_the_last_node c.last-b.ensures.is_the_last_node next.reads.written (c.put.ensures.written ∙ ap (put written) c.node.ensures) m)
+          (λ f b m. both_written f _ b (store_of c.loop-column.self.nodes.now) written (store_of c.put.new.self) c.last-a.result c.last-b.result c.last-a.ensures.is_the_last_node c.last-b.ensures.is_the_last_node next.reads.written c.put.ensures.written m)
           next.keeps c.put.ensures.keeps;
       same_cursor = next.same_cursor ∙ so_far.same_cursor;
       same_nodes = next.same_nodes ∙ so_far.same_nodes;
