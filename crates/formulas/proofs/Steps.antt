@@ -11,7 +11,9 @@ use Rattle.formulas.specs.Steps.{Wrote, Keeps}
 use Rattle.formulas.specs.Reading.{Outcome, fault, parsed, Reader, bind, at, perhaps}
 use Rattle.formulas.specs.Readers.{chain, joined, sentence_of, term, term_with, term_in, inner}
 use Rattle.formulas.specs.Sentences.{Sentence, both, either}
-use Rattle.formulas.specs.Stores.{Store, write, put, last, node, or_nodes}
+use Rattle.theory.specs.declared.node.Shape.TheVariants as node
+use Rattle.theory.specs.Shapes.{node_of}
+use Rattle.formulas.specs.Stores.{Store, write, put, last, or_nodes}
 use Rattle.formulas.proofs.Keep.{keeps_trans}
 use Rattle.formulas.proofs.Chains.{Chained, Going, chain_fault, chain_more, chain_breaks, chain_ends, sign_some, fault_some}
 
@@ -74,10 +76,10 @@ module _ (s : Sign) (join : Sentence → Sentence → Sentence) (operand : Reade
       pub going_breaks : (c : ℕ) (after : List Placed) (x : Fault) → perhaps s rest ≡ parsed (Some c) after → operand after ≡ fault x → joined s join operand ps ≡ fault x
       going_breaks c after x e d = begun ∙ chain_breaks s join operand was.fuel was.formula rest after c x (omega (arith, sign_some s rest after c e, was.enough)) e d
 
-pub both_written : (f g : Sentence) (before mid mid' end' : Store) (a b : ℕ) → a ≡ last mid → b ≡ last mid' → mid' ≡ write g mid → end' ≡ put mid' (node 4 a b 0) → mid ≡ write f before → end' ≡ write (both f g) before
+pub both_written : (f g : Sentence) (before mid mid' end' : Store) (a b : ℕ) → a ≡ last mid → b ≡ last mid' → mid' ≡ write g mid → end' ≡ put mid' (node_of (node.Both a b)) → mid ≡ write f before → end' ≡ write (both f g) before
 both_written f g before mid mid' end' a b ea eb w e m =
-    e ∙ (λ i. put mid' (node 4 (ea i) (eb i) 0)) ∙ ap (λ t. put t (node 4 (last mid) (last t) 0)) w
-    ∙ ap (λ t. put (write g t) (node 4 (last t) (last (write g t)) 0)) m
+    e ∙ (λ i. put mid' (node_of (node.Both (ea i) (eb i)))) ∙ ap (λ t. put t (node_of (node.Both (last mid) (last t)))) w
+    ∙ ap (λ t. put (write g t) (node_of (node.Both (last t) (last (write g t))))) m
 
 pub either_written : (f g : Sentence) (before mid mid' end' : Store) (a : ℕ) → a ≡ last mid → mid' ≡ write g mid → end' ≡ or_nodes a mid' → mid ≡ write f before → end' ≡ write (either f g) before
 either_written f g before mid mid' end' a ea w e m =

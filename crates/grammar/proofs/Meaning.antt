@@ -6,7 +6,9 @@ use Rattle.theory.specs.declared.node.Node.{Node}
 use Rattle.theory.specs.Formula.{Formula, shape, build, grow, formulas, formula, Earlier}
 use Rattle.theory.proofs.Growth.{grow_keeps}
 use Rattle.formulas.specs.Sentences.{Sentence, truth, fact, equals, neg, both, either, knows, values, or, meant}
-use Rattle.formulas.specs.Stores.{Store, put, write, last, node, or_nodes}
+use Rattle.theory.specs.declared.node.Shape.TheVariants as node
+use Rattle.theory.specs.Shapes.{node_of}
+use Rattle.formulas.specs.Stores.{Store, put, write, last, or_nodes}
 use Rattle.grammar.specs.Laws.{NamesEarlier, SentencesMean}
 
 grow_append : (fs : List Formula) (ns ms : List Node) → grow fs (ns ++ ms) ≡ grow (grow fs ns) ms
@@ -96,51 +98,51 @@ puts s n φ room before e =
 -- the nodes of `or` behind a and the last node, b
 or_adds : (a : ℕ) (s : Store) (φ ψ : Formula) → (or_nodes a s).full ≡ false → Stands s a φ → Stands s (last s) ψ → Adds s (or_nodes a s) (or φ ψ)
 or_adds a s φ ψ room x y =
-    let s₁ = put s (node 3 a 0 0) in
-    let s₂ = put s₁ (node 3 (last s) 0 0) in
-    let s₃ = put s₂ (node 4 (last s₂ - 1) (last s₂) 0) in
-    let room₃ = (put_open s₃ (node 3 (last s₃) 0 0) room).0 in
-    let room₂ = (put_open s₂ (node 4 (last s₂ - 1) (last s₂) 0) room₃).0 in
-    let room₁ = (put_open s₁ (node 3 (last s) 0 0) room₂).0 in
-    let a₁ = puts s (node 3 a 0 0) (Formula.neg φ) room₁ x.there (ap Formula.neg x.says) in
+    let s₁ = put s (node_of (node.Not a)) in
+    let s₂ = put s₁ (node_of (node.Not (last s))) in
+    let s₃ = put s₂ (node_of (node.Both (last s₂ - 1) (last s₂))) in
+    let room₃ = (put_open s₃ (node_of (node.Not (last s₃))) room).0 in
+    let room₂ = (put_open s₂ (node_of (node.Both (last s₂ - 1) (last s₂))) room₃).0 in
+    let room₁ = (put_open s₁ (node_of (node.Not (last s))) room₂).0 in
+    let a₁ = puts s (node_of (node.Not a)) (Formula.neg φ) room₁ x.there (ap Formula.neg x.says) in
     let y₁ = stays a₁ y in
-    let a₂ = puts s₁ (node 3 (last s) 0 0) (Formula.neg ψ) room₂ y₁.there (ap Formula.neg y₁.says) in
+    let a₂ = puts s₁ (node_of (node.Not (last s))) (Formula.neg ψ) room₂ y₁.there (ap Formula.neg y₁.says) in
     let x₂ = stays a₂ a₁.final in
-    let before : last s₁ ≡ last s₂ - 1 = omega (arith, a₁.final.there, ap length (put_open s₁ (node 3 (last s) 0 0) room₂).1, length-append s₁.nodes (node 3 (last s) 0 0 ∷ [])) in
+    let before : last s₁ ≡ last s₂ - 1 = omega (arith, a₁.final.there, ap length (put_open s₁ (node_of (node.Not (last s))) room₂).1, length-append s₁.nodes (node_of (node.Not (last s)) ∷ [])) in
     let P : ℕ → Type 0 = λ i. Stands s₂ i (Formula.neg φ) in
     let x₂' = subst P before x₂ in
-    let a₃ = puts s₂ (node 4 (last s₂ - 1) (last s₂) 0) (Formula.both (Formula.neg φ) (Formula.neg ψ)) room₃ (x₂'.there, a₂.final.there) (ap₂ Formula.both x₂'.says a₂.final.says) in
-    let a₄ = puts s₃ (node 3 (last s₃) 0 0) (or φ ψ) room a₃.final.there (ap Formula.neg a₃.final.says) in
+    let a₃ = puts s₂ (node_of (node.Both (last s₂ - 1) (last s₂))) (Formula.both (Formula.neg φ) (Formula.neg ψ)) room₃ (x₂'.there, a₂.final.there) (ap₂ Formula.both x₂'.says a₂.final.says) in
+    let a₄ = puts s₃ (node_of (node.Not (last s₃))) (or φ ψ) room a₃.final.there (ap Formula.neg a₃.final.says) in
     adds_then a₁ (adds_then a₂ (adds_then a₃ a₄))
 
 or_open : (a : ℕ) (s : Store) → (or_nodes a s).full ≡ false → s.full ≡ false
 or_open a s room =
-    let s₁ = put s (node 3 a 0 0) in
-    let s₂ = put s₁ (node 3 (last s) 0 0) in
-    let s₃ = put s₂ (node 4 (last s₂ - 1) (last s₂) 0) in
-    (put_open s (node 3 a 0 0) (put_open s₁ (node 3 (last s) 0 0) (put_open s₂ (node 4 (last s₂ - 1) (last s₂) 0) (put_open s₃ (node 3 (last s₃) 0 0) room).0).0).0).0
+    let s₁ = put s (node_of (node.Not a)) in
+    let s₂ = put s₁ (node_of (node.Not (last s))) in
+    let s₃ = put s₂ (node_of (node.Both (last s₂ - 1) (last s₂))) in
+    (put_open s (node_of (node.Not a)) (put_open s₁ (node_of (node.Not (last s))) (put_open s₂ (node_of (node.Both (last s₂ - 1) (last s₂))) (put_open s₃ (node_of (node.Not (last s₃))) room).0).0).0).0
 
 write_open : (x : Sentence) (s : Store) → (write x s).full ≡ false → s.full ≡ false
-write_open truth s e = (put_open s (node 0 0 0 0) e).0
-write_open (fact n) s e = (put_open s (node 1 n 0 0) e).0
-write_open (equals q v) s e = (put_open s (node 2 q v 0) e).0
-write_open (neg x) s e = write_open x s (put_open (write x s) (node 3 (last (write x s)) 0 0) e).0
-write_open (both x y) s e = write_open x s (write_open y (write x s) (put_open (write y (write x s)) (node 4 (last (write x s)) (last (write y (write x s))) 0) e).0)
+write_open truth s e = (put_open s (node_of node.Top) e).0
+write_open (fact n) s e = (put_open s (node_of (node.Fact n)) e).0
+write_open (equals q v) s e = (put_open s (node_of (node.Equals q v)) e).0
+write_open (neg x) s e = write_open x s (put_open (write x s) (node_of (node.Not (last (write x s)))) e).0
+write_open (both x y) s e = write_open x s (write_open y (write x s) (put_open (write y (write x s)) (node_of (node.Both (last (write x s)) (last (write y (write x s))))) e).0)
 write_open (either x y) s e = write_open x s (write_open y (write x s) (or_open (last (write x s)) (write y (write x s)) e))
-write_open (knows p x) s e = write_open x s (put_open (write x s) (node 5 p (last (write x s)) 0) e).0
-write_open (values p q x) s e = write_open x s (put_open (write x s) (node 6 p q (last (write x s))) e).0
+write_open (knows p x) s e = write_open x s (put_open (write x s) (node_of (node.Knows p (last (write x s)))) e).0
+write_open (values p q x) s e = write_open x s (put_open (write x s) (node_of (node.Value p q (last (write x s)))) e).0
 
 -- the nodes of a sentence
 adds : (x : Sentence) (s : Store) → (write x s).full ≡ false → Adds s (write x s) (meant x)
-adds truth s e = puts s (node 0 0 0 0) Formula.top e tt refl
-adds (fact n) s e = puts s (node 1 n 0 0) (Formula.fact n) e tt refl
-adds (equals q v) s e = puts s (node 2 q v 0) (Formula.equals q v) e tt refl
+adds truth s e = puts s (node_of node.Top) Formula.top e tt refl
+adds (fact n) s e = puts s (node_of (node.Fact n)) (Formula.fact n) e tt refl
+adds (equals q v) s e = puts s (node_of (node.Equals q v)) (Formula.equals q v) e tt refl
 adds (neg x) s e =
-    let t = write x s in let n = node 3 (last t) 0 0 in
+    let t = write x s in let n = node_of (node.Not (last t)) in
     let a = adds x s (put_open t n e).0 in
     adds_then a (puts t n (Formula.neg (meant x)) e a.final.there (ap Formula.neg a.final.says))
 adds (both x y) s e =
-    let t = write x s in let u = write y t in let n = node 4 (last t) (last u) 0 in
+    let t = write x s in let u = write y t in let n = node_of (node.Both (last t) (last u)) in
     let room = (put_open u n e).0 in
     let a = adds x s (write_open y t room) in
     let b = adds y t room in
@@ -153,11 +155,11 @@ adds (either x y) s e =
     let b = adds y t room in
     adds_then a (adds_then b (or_adds (last t) u (meant x) (meant y) e (stays b a.final) b.final))
 adds (knows p x) s e =
-    let t = write x s in let n = node 5 p (last t) 0 in
+    let t = write x s in let n = node_of (node.Knows p (last t)) in
     let a = adds x s (put_open t n e).0 in
     adds_then a (puts t n (Formula.knows p (meant x)) e a.final.there (ap (Formula.knows p) a.final.says))
 adds (values p q x) s e =
-    let t = write x s in let n = node 6 p q (last t) in
+    let t = write x s in let n = node_of (node.Value p q (last t)) in
     let a = adds x s (put_open t n e).0 in
     adds_then a (puts t n (Formula.value p q (meant x)) e a.final.there (ap (Formula.value p q) a.final.says))
 

@@ -1,7 +1,8 @@
 // What is done with a list of nodes.
 ghost use Rattle.std.specs.Prelude.{◌≡◌, ◌≤◌, false, [], length, IfOk};
+ghost use Rattle.theory.specs.declared.node.Shape.TheVariants.{Value};
 ghost use Rattle.theory.specs.Shapes.{node_of};
-ghost use Rattle.formulas.specs.Stores.{store_of, put, last, kept, or_nodes, and_then, node};
+ghost use Rattle.formulas.specs.Stores.{store_of, put, last, kept, or_nodes, and_then};
 ghost use Rattle.formulas.specs.Steps.{Keeps};
 
 use crate::nodes::NodeList;
@@ -85,7 +86,7 @@ impl NodeList {
 
     // Appends a value node over the node written last.
     pub(crate) fn put_value(&mut self, agent: u16, quantity: u16)
-        ensures written { store_of self.new ≡ and_then (store_of self.old) (λ i. node 6 agent quantity i) }
+        ensures written { store_of self.new ≡ and_then (store_of self.old) (λ i. node_of (Value agent quantity i)) }
         ensures keeps { Keeps (store_of self.old) (store_of self.new) }
     {
         let c = self.last();
