@@ -28,7 +28,7 @@ pub(crate) struct Parser<'r, 'a> {
 }
 
 impl<'r, 'a> Parser<'r, 'a> {
-    // Conjunctions joined by `|`.
+    // Conjunctions joined by `|`. One function for both kinds of operands was tried: it gets no proof, since its bound names both lifetimes.
     #[cycle(sentence)]
     pub(crate) fn disjunction(&mut self, levels: u8) -> Result<(), FormulaFault>
         ensures { Parsed (disjunction levels) self.old self.new result }

@@ -28,7 +28,8 @@ pub fn start(line: &[u8]) -> Result<Cursor<'_>, LineFault>
     Ok(Cursor::new(line))
 }
 
-// The first word of the line that the cursor stands at the start of.
+// The first word of the line that the cursor stands at the start of. That it is known is asked by settings and calls: a function over
+// the kind of word would need a longer contract than the line that it saves.
 #[tactic(auto, unfolding(crate::specs::Reading::the_beginning))]
 pub fn first_word<'a>(cursor: &mut Cursor<'a>) -> Result<FirstWord<'a>, LineFault>
     ensures reads_a_word { MatchResult result (λ x. Begun cursor.old x cursor.new) (λ e. Failed (the_beginning cursor.old) (of_line e)) }
