@@ -1,4 +1,5 @@
 // Steps on piles of layers over any model.
+ghost use Rattle.std.specs.Prelude.{◌≡◌, ℕ};
 ghost use Rattle.model.specs.Stages.{stage_of};
 ghost use Rattle.piles.specs.Playing.{full_stage, Played};
 
@@ -25,53 +26,67 @@ pub fn play<S: Stage + Drop>(
     Ok(verdict_on(&stage))
 }
 
-// Each pile below is of another type, so what the four share takes the pile ready made: it is `play`.
+// Layers piled over any model: a stage that means the model, hears, takes so many looks and puts.
+pub trait Pile<M: Model>: Stage {
+    ghost looks: { ℕ };
 
-// The same on hearing over looking over putting.
-pub fn play_hearing_first<M: Model + Drop>(
-    model: M,
-    steps: &[Step<'_>],
-    answers: &mut [Result<(), Refusal>],
-) -> Result<Verdict, Refusal>
-    ensures plays_on_16_looks { Played (full_stage 16 (M.Model.meaning model)) steps.now answers.old result answers.new }
-{
-    let pile = HearingLayer::new(LookingLayer::new(PuttingLayer::new(Floor::new(model))));
-    play(pile, steps, answers)
+    // The pile over the model, with nothing kept.
+    fn over(model: M) -> Self
+        ensures is_the_full_stage { stage_of Self.Model.meaning Self.Stage.takes result ≡ full_stage looks (M.meaning model) };
 }
 
-// The same on putting over looking over hearing.
-pub fn play_putting_first<M: Model + Drop>(
-    model: M,
-    steps: &[Step<'_>],
-    answers: &mut [Result<(), Refusal>],
-) -> Result<Verdict, Refusal>
-    ensures plays_on_16_looks { Played (full_stage 16 (M.Model.meaning model)) steps.now answers.old result answers.new }
-{
-    let pile = PuttingLayer::new(LookingLayer::new(HearingLayer::new(Floor::new(model))));
-    play(pile, steps, answers)
+// Hearing over looking over putting.
+pub type HearingFirst<M> = HearingLayer<LookingLayer<PuttingLayer<Floor<M>>>>;
+
+impl<M: Model> Pile<M> for HearingLayer<LookingLayer<PuttingLayer<Floor<M>>>> {
+    ghost looks = { 16 };
+
+    fn over(model: M) -> Self {
+        HearingLayer::new(LookingLayer::new(PuttingLayer::new(Floor::new(model))))
+    }
 }
 
-// The same on looking over hearing over putting.
-pub fn play_looking_first<M: Model + Drop>(
-    model: M,
-    steps: &[Step<'_>],
-    answers: &mut [Result<(), Refusal>],
-) -> Result<Verdict, Refusal>
-    ensures plays_on_16_looks { Played (full_stage 16 (M.Model.meaning model)) steps.now answers.old result answers.new }
-{
-    let pile = LookingLayer::new(HearingLayer::new(PuttingLayer::new(Floor::new(model))));
-    play(pile, steps, answers)
+// Putting over looking over hearing.
+pub type PuttingFirst<M> = PuttingLayer<LookingLayer<HearingLayer<Floor<M>>>>;
+
+impl<M: Model> Pile<M> for PuttingLayer<LookingLayer<HearingLayer<Floor<M>>>> {
+    ghost looks = { 16 };
+
+    fn over(model: M) -> Self {
+        PuttingLayer::new(LookingLayer::new(HearingLayer::new(Floor::new(model))))
+    }
 }
 
-// The same on looking over hearing over looking over putting, which takes 32 looks.
-pub fn play_looking_twice<M: Model + Drop>(
+// Looking over hearing over putting.
+pub type LookingFirst<M> = LookingLayer<HearingLayer<PuttingLayer<Floor<M>>>>;
+
+impl<M: Model> Pile<M> for LookingLayer<HearingLayer<PuttingLayer<Floor<M>>>> {
+    ghost looks = { 16 };
+
+    fn over(model: M) -> Self {
+        LookingLayer::new(HearingLayer::new(PuttingLayer::new(Floor::new(model))))
+    }
+}
+
+// Looking over hearing over looking over putting, which takes 32 looks.
+pub type LookingTwice<M> = LookingLayer<HearingLayer<LookingLayer<PuttingLayer<Floor<M>>>>>;
+
+impl<M: Model> Pile<M> for LookingLayer<HearingLayer<LookingLayer<PuttingLayer<Floor<M>>>>> {
+    ghost looks = { 32 };
+
+    fn over(model: M) -> Self {
+        let lower = LookingLayer::new(PuttingLayer::new(Floor::new(model)));
+        LookingLayer::new(HearingLayer::new(lower))
+    }
+}
+
+// Takes the steps on the pile over the model, and judges what is left.
+pub fn play_over<M: Model, P: Pile<M> + Drop>(
     model: M,
     steps: &[Step<'_>],
     answers: &mut [Result<(), Refusal>],
 ) -> Result<Verdict, Refusal>
-    ensures plays_on_32_looks { Played (full_stage 32 (M.Model.meaning model)) steps.now answers.old result answers.new }
+    ensures plays_on_the_full_stage { Played (full_stage P.Pile.looks (M.meaning model)) steps.now answers.old result answers.new }
 {
-    let lower = LookingLayer::new(PuttingLayer::new(Floor::new(model)));
-    let pile = LookingLayer::new(HearingLayer::new(lower));
-    play(pile, steps, answers)
+    play(P::over(model), steps, answers)
 }

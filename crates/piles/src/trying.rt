@@ -1,7 +1,5 @@
 // The same steps on piles of different orders over a circle.
-use crate::playing::{
-    play_hearing_first, play_looking_first, play_looking_twice, play_putting_first,
-};
+use crate::playing::{HearingFirst, LookingFirst, LookingTwice, PuttingFirst, play_over};
 use looking::layer::LookingLayer;
 use model::questions::Model;
 use model::refusals::Refusal;
@@ -107,8 +105,14 @@ fn last_look<S: Stage>(stage: &mut S) -> u16 {
 #[test]
 fn four_piles_answer_alike(rt: HostRuntime) -> Result<(), Fail> {
     let circle = Hats::new(Sight::Circle, 3)?;
-    assert!(rt; is_due(play_hearing_first, circle) && is_due(play_putting_first, circle));
-    assert!(rt; is_due(play_looking_first, circle) && is_due(play_looking_twice, circle));
+    assert!(rt;
+        is_due(play_over::<Hats, HearingFirst<Hats>>, circle)
+            && is_due(play_over::<Hats, PuttingFirst<Hats>>, circle)
+    );
+    assert!(rt;
+        is_due(play_over::<Hats, LookingFirst<Hats>>, circle)
+            && is_due(play_over::<Hats, LookingTwice<Hats>>, circle)
+    );
     Ok(())
 }
 
