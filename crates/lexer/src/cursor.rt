@@ -27,13 +27,21 @@ impl<'a> Model for Cursor<'a> {
 
 impl<'a> Cursor<'a> {
     // The beginning of a line.
-    #[tactic(auto, unfolding(crate::specs::Tokens::pieces_from))]
     pub fn new(line: &'a [u8]) -> Cursor<'a>
         ensures stands_at_the_start { result ≡ pieces_from line.now 0 }
     {
+        Cursor::at(line, 0)
+    }
+
+    // An index of a line; past the line's end there is nothing but the end.
+    #[tactic(auto, unfolding(crate::specs::Tokens::pieces_from))]
+    pub fn at(line: &'a [u8], from: usize) -> Cursor<'a>
+        ensures stands_at_the_index { result ≡ pieces_from line.now from }
+    {
+        let start = from.min(line.len());
         Cursor {
-            rest: line,
-            column: 1,
+            rest: after(line, start),
+            column: start + 1,
         }
     }
 
