@@ -16,12 +16,6 @@ pub slice_bounds-write_row-end : goal.slice_bounds-write_row-end
 slice_bounds-write_row-end c =
     let r = room c.args.low c.args.sum (length c.args.list.now) c.loop-x.start c.loop-x.x c.requires.is_admitted c.loop-x.invariant.0 c.loop-x-test.true in search rules
 
-pub write_row-requires : goal.write_row-requires
-write_row-requires c =
-    let r = room c.args.low c.args.sum (length c.args.list.now) c.loop-x.start c.loop-x.x c.requires.is_admitted c.loop-x.invariant.0 c.loop-x-test.true in
-    let a = admitted c.args.low c.args.sum (length c.args.list.now) c.requires.is_admitted in
-    record { small_greater = λ k h. omega (arith, part c.loop-x.list c.loop-x.start c.row_len.result (omega arith)) }
-
 pub loop-x-preserved : goal.loop-x-preserved
 loop-x-preserved c =
     let e = count_step c.loop-x.x c.args.sum c.loop-x-test.true in

@@ -11,6 +11,3 @@ loop-place-preserved c = (
   simp length-set c.loop-place.invariant.0,
   row_further numbers c.loop-place.row c.loop-place.place c.args.x c.new.result (omega (arith, c.loop-place.invariant.0)) c.new.ensures.holds_its_numbers c.loop-place.invariant.1,
 )
-
-pub returns : goal.returns
-returns c = record { writes_the_row = row_written numbers c.loop-place.row c.args.x c.loop-place.place (length c.args.row.now) c.loop-place.invariant.0 (omega arith) c.loop-place.invariant.1 }
