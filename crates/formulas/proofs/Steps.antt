@@ -1,32 +1,19 @@
 -- Steps of the readers of formulas.
-use Rattle.std.proofs.Common.{◌≡◌, ℕ, zero, suc, ◌-◌, ◌<◌, ◌≤◌, ◌⊎◌, List, ◌∷◌, length, Some, None, Option, Result, sym, refl, ap, ◌∙◌, ⊎_elim, arith, Bor, MatchResult}
+use Rattle.std.proofs.Common.{◌≡◌, ℕ, zero, suc, ◌-◌, ◌<◌, ◌≤◌, ◌⊎◌, List, ◌∷◌, length, Some, None, Option, sym, refl, ap, ◌∙◌, ⊎_elim, arith}
 use Rattle.lexer.specs.declared.tokens.Sign.{Sign}
 use Rattle.lexer.specs.declared.tokens.Sign.TheVariants as mark
 use Rattle.lexer.specs.declared.tokens.Lexeme.{Lexeme}
 use Rattle.lexer.specs.declared.tokens.Token.{Token}
-use Rattle.lexer.specs.declared.tokens.Token.TheVariants as token
-use Rattle.std.proofs.lemmas.Result.{MatchResult-weaker}
-use Rattle.theory.specs.declared.node.Node.{Node}
-use Rattle.formulas.specs.declared.faults.FormulaFault.{FormulaFault}
 use Rattle.lexer.specs.Faults.{Fault}
 use Rattle.lexer.specs.Tokens.{sign, bad, Placed}
-use Rattle.formulas.specs.Faults.{of_formula}
 use Rattle.lexer.specs.Steps.{piece_of, unless_end, Next}
 use Rattle.formulas.specs.Steps.{Wrote, Keeps}
-use Rattle.formulas.specs.Reading.{a_number, the_sign, Outcome, fault, parsed, Reader, bind, at, perhaps}
-use Rattle.formulas.specs.Readers.{value_in, chain, joined, sentence_of, term, term_with, term_in, inner}
+use Rattle.formulas.specs.Reading.{Outcome, fault, parsed, Reader, bind, at, perhaps}
+use Rattle.formulas.specs.Readers.{chain, joined, sentence_of, term, term_with, term_in, inner}
 use Rattle.formulas.specs.Sentences.{Sentence, both, either}
 use Rattle.formulas.specs.Stores.{Store, write, put, last, node, or_nodes}
-use Rattle.formulas.proofs.Keep.{keeps_refl, keeps_trans}
+use Rattle.formulas.proofs.Keep.{keeps_trans}
 use Rattle.formulas.proofs.Chains.{Chained, Going, chain_fault, chain_more, chain_breaks, chain_ends, sign_some, fault_some}
-
-pub inner_none : (n : ℕ) → n ≡ 0 → inner n ≡ None
-inner_none zero e = refl
-inner_none (suc n) e = absurd (omega arith)
-
-pub inner_some : (n : ℕ) → 0 < n → inner n ≡ Some (term (n - 1))
-inner_some zero h = absurd (omega arith)
-inner_some (suc n) h = ap (λ m. Some (term m)) (let q : n ≡ suc n - 1 = omega arith in q)
 
 pub term_is : (n : ℕ) (ps : List Placed) → term n ps ≡ term_with (inner n) ps
 unfolding term
@@ -39,12 +26,6 @@ wrote o f {ps} {rest} {s} {t} e w h =
     let same = ap sentence_of e in
     record { is = e ∙ ap (λ g. parsed g rest) (sym same); written = w ∙ ap (λ g. write g s) (sym same); fewer = h }
 
--- what another function read in the place of this one, a piece later
-pub handed : (o o' : Outcome Sentence) (ps mid rest : List Placed) (r : Result (Unit {0}) FormulaFault) (s t : Store) → o ≡ o' → length mid < length ps
-    → MatchResult r (λ _. Wrote o' mid rest s t) (λ e. o' ≡ fault (of_formula e)) → MatchResult r (λ _. Wrote o ps rest s t) (λ e. o ≡ fault (of_formula e))
-handed o o' ps mid rest r s t e on h =
-    MatchResult-weaker r h (λ _ w. let fewer = w.fewer in wrote o (sentence_of o') (e ∙ w.is) w.written (omega arith)) (λ y f. e ∙ f)
-
 pub term_first : (n : ℕ) (ps : List Placed) (x : Lexeme) (rest : List Placed) (t : Token) → Next ps x rest → x.token ≡ t
     → term n ps ≡ term_in (inner n) x.column (piece_of t) (unless_end t rest)
 term_first n ps x rest t h e =
@@ -54,14 +35,6 @@ pub term_bad : (n : ℕ) (k c : ℕ) (ps rest : List Placed) → ps ≡ record {
 term_bad n k c ps rest e = term_is n ps ∙ ap (term_with (inner n)) e
 
 module _ (s : Sign) (join : Sentence → Sentence → Sentence) (operand : Reader Sentence) where
-  pub going_start : (from : List Placed) (start : Store) → Going s join operand from start from start
-  going_start from start =
-      record {
-        chained = λ f before e. record { formula = f; fuel = length from; enough = omega arith; so_far = refl; written = e };
-        fewer = omega arith;
-        keeps = keeps_refl start;
-      }
-
   module _ {from : List Placed} {start : Store} {rest : List Placed} {mid : Store} (so_far : Going s join operand from start rest mid) where
     pub going_more : (c : ℕ) (after next : List Placed) (mid' end' : Store) → perhaps s rest ≡ parsed (Some c) after → length after < length rest → Wrote (operand after) after next mid mid'
         → ((f : Sentence) (before : Store) → mid ≡ write f before → end' ≡ write (join f (sentence_of (operand after))) before) → Keeps mid mid' → Keeps mid' end'
@@ -109,33 +82,6 @@ both_written f g before mid mid' end' a b ea eb w e m =
 pub either_written : (f g : Sentence) (before mid mid' end' : Store) (a : ℕ) → a ≡ last mid → mid' ≡ write g mid → end' ≡ or_nodes a mid' → mid ≡ write f before → end' ≡ write (either f g) before
 either_written f g before mid mid' end' a ea w e m =
     e ∙ (λ i. or_nodes (ea i) (w i)) ∙ ap (λ t. or_nodes (last t) (write g t)) m
-
--- a node put over the one written last
-pub over_written : (f : Sentence) (before mid end' : Store) (a : ℕ) (k : ℕ → Node) → mid ≡ write f before → a ≡ last mid → end' ≡ put mid (k a) → end' ≡ put (write f before) (k (last (write f before)))
-over_written f before mid end' a k w e p = p ∙ ap (λ n. put mid (k n)) e ∙ ap (λ t. put t (k (last t))) w
-
-pub fewer_sign : (ps : List Placed) (x : Lexeme) (rest : List Placed) (s : Sign) → Next ps x rest → x.token ≡ token.Sign s → length rest < length ps
-fewer_sign ps x rest s n e = omega (arith, ap length n.first, ap (λ k. length (unless_end k rest)) e)
-
-pub fewer_word : (ps : List Placed) (x : Lexeme) (rest : List Placed) (w : Bor (List ℕ)) → Next ps x rest → x.token ≡ token.Word w → length rest < length ps
-fewer_word ps x rest w n e = omega (arith, ap length n.first, ap (λ k. length (unless_end k rest)) e)
-
--- `V p.q`, up to where it goes wrong
-module _ (i : Option (Reader Sentence)) (c : ℕ) (ps : List Placed) where
-  pub value_no_agent : (x : Fault) → a_number ps ≡ fault x → term_in i c (sign mark.Value) ps ≡ fault x
-  value_no_agent x e = simp e
-
-  module _ (p : ℕ) (r : List Placed) (e : a_number ps ≡ parsed p r) where
-    pub value_no_dot : (x : Fault) → the_sign mark.Dot r ≡ fault x → term_in i c (sign mark.Value) ps ≡ fault x
-    value_no_dot x d = simp (e, d)
-
-    module _ (k : ℕ) (r₂ : List Placed) (d : the_sign mark.Dot r ≡ parsed k r₂) where
-      pub value_no_quantity : (x : Fault) → a_number r₂ ≡ fault x → term_in i c (sign mark.Value) ps ≡ fault x
-      value_no_quantity x f = simp (e, d, f)
-
-      module _ (q : ℕ) (r₃ : List Placed) (f : a_number r₂ ≡ parsed q r₃) where
-        pub value_whole : term_in i c (sign mark.Value) ps ≡ bind (perhaps mark.Slash r₃) (value_in i p q)
-        value_whole = simp (e, d, f)
 
 -- a sign that begins no term
 pub misplaced : (i : Option (Reader Sentence)) (c : ℕ) (ps : List Placed) (s : Sign)

@@ -4,3 +4,4 @@ pub mod Sentences
 pub mod Readers
 pub mod Stores
 pub mod Steps
+pub mod Parsers

@@ -15,6 +15,7 @@ pub enum FormulaFault {
     Level(usize),
 }
 
+// By hand: clauses name the fault that `?` makes, and a derived `From` has no clause.
 impl From<TokenFault> for FormulaFault {
     ghost from_gives = { λ x y. y ≡ Token x };
 

@@ -6,7 +6,7 @@ use theory::node::Node;
 pub mod writing;
 
 // At most 4,096 nodes. `full` says that one found no place; a line is read on then, since that is its fault only where nothing else is wrong with it.
-#[derive(Debug, Drop, PartialEq, Eq)]
+#[derive(Drop)]
 pub struct NodeList {
     items: Vec<Node>,
     full: bool,

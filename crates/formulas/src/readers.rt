@@ -5,7 +5,7 @@ ghost use Rattle.formulas.specs.Stores.{store_of};
 
 use crate::faults::FormulaFault;
 use crate::nodes::NodeList;
-use crate::terms::disjunction;
+use crate::terms::Parser;
 use lexer::cursor::Cursor;
 
 // How many levels a formula may open.
@@ -16,5 +16,5 @@ pub fn formula(cursor: &mut Cursor<'_>, nodes: &mut NodeList) -> Result<(), Form
     ensures reads_a_formula { Reads a_formula cursor.old cursor.new result (store_of nodes.old) (store_of nodes.new) }
     ensures keeps_the_nodes_before { Keeps (store_of nodes.old) (store_of nodes.new) }
 {
-    disjunction(cursor, LEVELS, nodes)
+    Parser { cursor, nodes }.disjunction(LEVELS)
 }

@@ -3,8 +3,7 @@ ghost use Rattle.std.specs.Prelude.{◌≡◌, ◌+◌, MatchResult};
 ghost use Rattle.lexer.specs.declared.tokens.Sign.TheVariants.{Not, Open, Knows, Value};
 ghost use Rattle.lexer.specs.Tokens.{sign};
 ghost use Rattle.formulas.specs.Readers.{keyword, disjunction, conjunction, term, term_in, word_in, inner};
-ghost use Rattle.formulas.specs.Steps.{Reads, Keeps};
-ghost use Rattle.formulas.specs.Stores.{store_of};
+ghost use Rattle.formulas.specs.Parsers.{Parsed};
 
 use crate::faults::FormulaFault;
 use crate::nodes::NodeList;
@@ -21,179 +20,139 @@ fn deeper(levels: u8, column: usize) -> Result<u8, FormulaFault>
     levels.checked_sub(1).ok_or(FormulaFault::Level(column))
 }
 
-// Conjunctions joined by `|`.
-#[cycle(sentence)]
-pub(crate) fn disjunction(
-    cursor: &mut Cursor<'_>,
-    levels: u8,
-    nodes: &mut NodeList,
-) -> Result<(), FormulaFault>
-    ensures reads { Reads (disjunction levels) cursor.old cursor.new result (store_of nodes.old) (store_of nodes.new) }
-    ensures keeps { Keeps (store_of nodes.old) (store_of nodes.new) }
-{
-    conjunction(cursor, levels, nodes)?;
-    while let Some(_column) = perhaps_sign(cursor, Sign::Or)? {
-        let a = nodes.last();
-        conjunction(cursor, levels, nodes)?;
-        nodes.put_or(a);
-    }
-    Ok(())
+// Where a formula is read, and the list that its nodes are appended to.
+#[derive(Drop)]
+pub(crate) struct Parser<'r, 'a> {
+    pub(crate) cursor: &'r mut Cursor<'a>,
+    pub(crate) nodes: &'r mut NodeList,
 }
 
-// Terms joined by `&`.
-#[cycle(sentence)]
-fn conjunction(
-    cursor: &mut Cursor<'_>,
-    levels: u8,
-    nodes: &mut NodeList,
-) -> Result<(), FormulaFault>
-    ensures reads { Reads (conjunction levels) cursor.old cursor.new result (store_of nodes.old) (store_of nodes.new) }
-    ensures keeps { Keeps (store_of nodes.old) (store_of nodes.new) }
-{
-    term(cursor, levels, nodes)?;
-    while let Some(_column) = perhaps_sign(cursor, Sign::And)? {
-        let a = nodes.last();
-        term(cursor, levels, nodes)?;
-        let b = nodes.last();
-        nodes.put(node(4, a, b, 0));
-    }
-    Ok(())
-}
-
-#[cycle(sentence)]
-fn term(cursor: &mut Cursor<'_>, levels: u8, nodes: &mut NodeList) -> Result<(), FormulaFault>
-    ensures reads { Reads (term levels) cursor.old cursor.new result (store_of nodes.old) (store_of nodes.new) }
-    ensures keeps { Keeps (store_of nodes.old) (store_of nodes.new) }
-{
-    let x = cursor.next_token()?;
-    match x.token {
-        Token::Sign(sign) => match sign {
-            Sign::Not => negation(cursor, x.column, levels, nodes),
-            Sign::Knows => knowledge(cursor, x.column, levels, nodes),
-            Sign::Value => value(cursor, x.column, levels, nodes),
-            Sign::Open => group(cursor, x.column, levels, nodes),
-            Sign::And
-            | Sign::Or
-            | Sign::Close
-            | Sign::Dot
-            | Sign::Slash
-            | Sign::Equals
-            | Sign::Minus => Err(FormulaFault::Place(x.column)),
-        },
-        Token::Word(w) => word(cursor, x.column, w, nodes),
-        Token::Number { .. } | Token::End => Err(FormulaFault::Place(x.column)),
-    }
-}
-
-// What follows `~`, which stands at the column.
-#[cycle(sentence)]
-fn negation(
-    cursor: &mut Cursor<'_>,
-    column: usize,
-    levels: u8,
-    nodes: &mut NodeList,
-) -> Result<(), FormulaFault>
-    ensures reads { Reads (term_in (inner levels) column (sign Not)) cursor.old cursor.new result (store_of nodes.old) (store_of nodes.new) }
-    ensures keeps { Keeps (store_of nodes.old) (store_of nodes.new) }
-{
-    let inner = deeper(levels, column)?;
-    term(cursor, inner, nodes)?;
-    let a = nodes.last();
-    nodes.put(node(3, a, 0, 0));
-    Ok(())
-}
-
-// What follows `K`.
-#[cycle(sentence)]
-fn knowledge(
-    cursor: &mut Cursor<'_>,
-    column: usize,
-    levels: u8,
-    nodes: &mut NodeList,
-) -> Result<(), FormulaFault>
-    ensures reads { Reads (term_in (inner levels) column (sign Knows)) cursor.old cursor.new result (store_of nodes.old) (store_of nodes.new) }
-    ensures keeps { Keeps (store_of nodes.old) (store_of nodes.new) }
-{
-    let inner = deeper(levels, column)?;
-    let agent = number(cursor)?;
-    term(cursor, inner, nodes)?;
-    let b = nodes.last();
-    nodes.put(node(5, agent, b, 0));
-    Ok(())
-}
-
-// What follows `(`.
-#[cycle(sentence)]
-fn group(
-    cursor: &mut Cursor<'_>,
-    column: usize,
-    levels: u8,
-    nodes: &mut NodeList,
-) -> Result<(), FormulaFault>
-    ensures reads { Reads (term_in (inner levels) column (sign Open)) cursor.old cursor.new result (store_of nodes.old) (store_of nodes.new) }
-    ensures keeps { Keeps (store_of nodes.old) (store_of nodes.new) }
-{
-    let inner = deeper(levels, column)?;
-    disjunction(cursor, inner, nodes)?;
-    expect_sign(cursor, Sign::Close)
-}
-
-// What follows `V`.
-#[cycle(sentence)]
-fn value(
-    cursor: &mut Cursor<'_>,
-    column: usize,
-    levels: u8,
-    nodes: &mut NodeList,
-) -> Result<(), FormulaFault>
-    ensures reads { Reads (term_in (inner levels) column (sign Value)) cursor.old cursor.new result (store_of nodes.old) (store_of nodes.new) }
-    ensures keeps { Keeps (store_of nodes.old) (store_of nodes.new) }
-{
-    let agent = number(cursor)?;
-    expect_sign(cursor, Sign::Dot)?;
-    let quantity = number(cursor)?;
-    match perhaps_sign(cursor, Sign::Slash)? {
-        None => {
-            nodes.put(node(0, 0, 0, 0));
-            nodes.put_value(agent, quantity);
-            Ok(())
+impl<'r, 'a> Parser<'r, 'a> {
+    // Conjunctions joined by `|`.
+    #[cycle(sentence)]
+    pub(crate) fn disjunction(&mut self, levels: u8) -> Result<(), FormulaFault>
+        ensures { Parsed (disjunction levels) self.old self.new result }
+    {
+        self.conjunction(levels)?;
+        while let Some(_column) = perhaps_sign(self.cursor, Sign::Or)? {
+            let a = self.nodes.last();
+            self.conjunction(levels)?;
+            self.nodes.put_or(a);
         }
-        Some(slash) => {
-            let inner = deeper(levels, slash)?;
-            term(cursor, inner, nodes)?;
-            nodes.put_value(agent, quantity);
-            Ok(())
+        Ok(())
+    }
+
+    // Terms joined by `&`.
+    #[cycle(sentence)]
+    fn conjunction(&mut self, levels: u8) -> Result<(), FormulaFault>
+        ensures { Parsed (conjunction levels) self.old self.new result }
+    {
+        self.term(levels)?;
+        while let Some(_column) = perhaps_sign(self.cursor, Sign::And)? {
+            let a = self.nodes.last();
+            self.term(levels)?;
+            let b = self.nodes.last();
+            self.nodes.put(node(4, a, b, 0));
+        }
+        Ok(())
+    }
+
+    #[cycle(sentence)]
+    #[tactic(auto, using(crate::proofs::Steps::term_is))]
+    fn term(&mut self, levels: u8) -> Result<(), FormulaFault>
+        ensures { Parsed (term levels) self.old self.new result }
+    {
+        let x = self.cursor.next_token()?;
+        match x.token {
+            Token::Sign(sign) => match sign {
+                Sign::Not => self.negation(x.column, levels),
+                Sign::Knows => self.knowledge(x.column, levels),
+                Sign::Value => self.value(x.column, levels),
+                Sign::Open => self.group(x.column, levels),
+                Sign::And
+                | Sign::Or
+                | Sign::Close
+                | Sign::Dot
+                | Sign::Slash
+                | Sign::Equals
+                | Sign::Minus => Err(FormulaFault::Place(x.column)),
+            },
+            Token::Word(w) => self.word(x.column, w),
+            Token::Number { .. } | Token::End => Err(FormulaFault::Place(x.column)),
         }
     }
-}
 
-// What follows a word, which stands at the column.
-fn word(
-    cursor: &mut Cursor<'_>,
-    column: usize,
-    text: &[u8],
-    nodes: &mut NodeList,
-) -> Result<(), FormulaFault>
-    ensures reads { Reads (word_in column (keyword text.now)) cursor.old cursor.new result (store_of nodes.old) (store_of nodes.new) }
-    ensures keeps { Keeps (store_of nodes.old) (store_of nodes.new) }
-{
-    match keyword_of(text) {
-        Some(Keyword::True) => {
-            nodes.put(node(0, 0, 0, 0));
-            Ok(())
+    // What follows `~`, which stands at the column.
+    #[cycle(sentence)]
+    fn negation(&mut self, column: usize, levels: u8) -> Result<(), FormulaFault>
+        ensures { Parsed (term_in (inner levels) column (sign Not)) self.old self.new result }
+    {
+        self.term(deeper(levels, column)?)?;
+        let a = self.nodes.last();
+        self.nodes.put(node(3, a, 0, 0));
+        Ok(())
+    }
+
+    // What follows `K`.
+    #[cycle(sentence)]
+    fn knowledge(&mut self, column: usize, levels: u8) -> Result<(), FormulaFault>
+        ensures { Parsed (term_in (inner levels) column (sign Knows)) self.old self.new result }
+    {
+        let inner = deeper(levels, column)?;
+        let agent = number(self.cursor)?;
+        self.term(inner)?;
+        let b = self.nodes.last();
+        self.nodes.put(node(5, agent, b, 0));
+        Ok(())
+    }
+
+    // What follows `(`.
+    #[cycle(sentence)]
+    fn group(&mut self, column: usize, levels: u8) -> Result<(), FormulaFault>
+        ensures { Parsed (term_in (inner levels) column (sign Open)) self.old self.new result }
+    {
+        self.disjunction(deeper(levels, column)?)?;
+        expect_sign(self.cursor, Sign::Close)
+    }
+
+    // What follows `V`.
+    #[cycle(sentence)]
+    fn value(&mut self, column: usize, levels: u8) -> Result<(), FormulaFault>
+        ensures { Parsed (term_in (inner levels) column (sign Value)) self.old self.new result }
+    {
+        let agent = number(self.cursor)?;
+        expect_sign(self.cursor, Sign::Dot)?;
+        let quantity = number(self.cursor)?;
+        match perhaps_sign(self.cursor, Sign::Slash)? {
+            None => self.nodes.put(node(0, 0, 0, 0)),
+            Some(slash) => self.term(deeper(levels, slash)?)?,
         }
-        Some(Keyword::Fact) => {
-            let fact = number(cursor)?;
-            nodes.put(node(1, fact, 0, 0));
-            Ok(())
+        self.nodes.put_value(agent, quantity);
+        Ok(())
+    }
+
+    // What follows a word, which stands at the column.
+    fn word(&mut self, column: usize, text: &[u8]) -> Result<(), FormulaFault>
+        ensures { Parsed (word_in column (keyword text.now)) self.old self.new result }
+    {
+        match keyword_of(text) {
+            Some(Keyword::True) => {
+                self.nodes.put(node(0, 0, 0, 0));
+                Ok(())
+            }
+            Some(Keyword::Fact) => {
+                let fact = number(self.cursor)?;
+                self.nodes.put(node(1, fact, 0, 0));
+                Ok(())
+            }
+            Some(Keyword::Quantity) => {
+                let quantity = number(self.cursor)?;
+                expect_sign(self.cursor, Sign::Equals)?;
+                let amount = number(self.cursor)?;
+                self.nodes.put(node(2, quantity, amount, 0));
+                Ok(())
+            }
+            None => Err(FormulaFault::Place(column)),
         }
-        Some(Keyword::Quantity) => {
-            let quantity = number(cursor)?;
-            expect_sign(cursor, Sign::Equals)?;
-            let amount = number(cursor)?;
-            nodes.put(node(2, quantity, amount, 0));
-            Ok(())
-        }
-        None => Err(FormulaFault::Place(column)),
     }
 }

@@ -250,9 +250,9 @@ module _ (n c : ℕ) (ps : List Placed) (f : Sentence) (rest : List Placed) wher
   abbrev Spelt : Piece → Type 0
   Spelt q = Sound (Term n) f (place q c ∷ ps) rest
 
-  word_sound : (w : List ℕ) (k : Keyword) → keyword w ≡ k → word_in c k ps ≡ parsed f rest → Spelt (word w)
-  word_sound w key.True is e = found (Term n) truth f (place (word w) c ∷ ps) rest (place (word w) c ∷ []) (same_value truth f ps rest e) (ap (λ l. place (word w) c ∷ l) (same_rest truth f ps rest e)) (always is)
-  word_sound w key.Fact is e =
+  word_sound : (w : List ℕ) (k : Option Keyword) → keyword w ≡ k → word_in c k ps ≡ parsed f rest → Spelt (word w)
+  word_sound w (Some key.True) is e = found (Term n) truth f (place (word w) c ∷ ps) rest (place (word w) c ∷ []) (same_value truth f ps rest e) (ap (λ l. place (word w) c ∷ l) (same_rest truth f ps rest e)) (always is)
+  word_sound w (Some key.Fact) is e =
       let a = seen (a_number ps) (λ v. parsed (fact v)) f rest e in
       let k = then (a_number ps) (λ v. parsed (fact v)) f rest e a in
       let d = numbered ps a.value a.rest a.is in
@@ -260,7 +260,7 @@ module _ (n c : ℕ) (ps : List Placed) (f : Sentence) (rest : List Placed) wher
       (ap fact (sym d.value) ∙ same_value (fact a.value) f a.rest rest k)
       (ap (λ l. place (word w) c ∷ l) (d.stands ∙ ap (λ l. place (number d.digits) d.column ∷ l) (same_rest (fact a.value) f a.rest rest k)))
       (of_fact is)
-  word_sound w key.Quantity is e =
+  word_sound w (Some key.Quantity) is e =
       let K₁ : ℕ → Reader Sentence = λ q r. bind (the_sign mark.Equals r) (λ _ r. bind (a_number r) (λ v. parsed (equals q v))) in
       let a = seen (a_number ps) K₁ f rest e in
       let d = numbered ps a.value a.rest a.is in
@@ -277,7 +277,7 @@ module _ (n c : ℕ) (ps : List Placed) (f : Sentence) (rest : List Placed) wher
       ((λ i. equals (sym d.value i) (sym g.value i)) ∙ same_value (equals a.value v.value) f v.rest rest k)
       (ap (λ l. place (word w) c ∷ l) (d.stands ∙ ap (λ l. place (number d.digits) d.column ∷ l) (z.stands ∙ ap (λ l. place (sign mark.Equals) z.column ∷ l) (g.stands ∙ ap (λ l. place (number g.digits) g.column ∷ l) (same_rest (equals a.value v.value) f v.rest rest k)))))
       (of_quantity is)
-  word_sound w key.Other is e = absurd (no_parse _ f rest e)
+  word_sound w None is e = absurd (no_parse _ f rest e)
 
 sound_in : (n : ℕ) (below : (m : ℕ) → n ≡ suc m → TermSound m) (c : ℕ) (q : Piece) (ps : List Placed) (f : Sentence) (rest : List Placed) → term_in (inner n) c q ps ≡ parsed f rest → Sound (Term n) f (place q c ∷ ps) rest
 sound_in n below c (number ds) ps f rest e = absurd (no_parse _ f rest e)

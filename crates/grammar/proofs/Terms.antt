@@ -35,11 +35,11 @@ module _ (i : Option (Reader Sentence)) (c : ℕ) where
       (then_regular a_number (λ v. parsed (equals q v)) number_regular part (λ v. gives (equals q v)))
 
   -- by the word that it is
-  word_entry : (w : List ℕ) (k : Keyword) → keyword w ≡ k → Entry i c (word w)
-  word_entry w key.True is = begins_term tt (let P : Keyword → Type 0 = λ k. Regular part (word_in c k) in subst P (sym is) (gives truth))
-  word_entry w key.Fact is = begins_term tt (let P : Keyword → Type 0 = λ k. Regular part (word_in c k) in subst P (sym is) (then_regular a_number (λ n. parsed (fact n)) number_regular part (λ n. gives (fact n))))
-  word_entry w key.Quantity is = begins_term tt (let P : Keyword → Type 0 = λ k. Regular part (word_in c k) in subst P (sym is) (then_regular a_number quantity number_regular part quantity_regular))
-  word_entry w key.Other is = misplaced 14 (λ l. ap (λ k. word_in c k l) is)
+  word_entry : (w : List ℕ) (k : Option Keyword) → keyword w ≡ k → Entry i c (word w)
+  word_entry w (Some key.True) is = begins_term tt (let P : Option Keyword → Type 0 = λ k. Regular part (word_in c k) in subst P (sym is) (gives truth))
+  word_entry w (Some key.Fact) is = begins_term tt (let P : Option Keyword → Type 0 = λ k. Regular part (word_in c k) in subst P (sym is) (then_regular a_number (λ n. parsed (fact n)) number_regular part (λ n. gives (fact n))))
+  word_entry w (Some key.Quantity) is = begins_term tt (let P : Option Keyword → Type 0 = λ k. Regular part (word_in c k) in subst P (sym is) (then_regular a_number quantity number_regular part quantity_regular))
+  word_entry w None is = misplaced 14 (λ l. ap (λ k. word_in c k l) is)
 
 -- what follows `V p.q`
 condition_regular : (i : Option (Reader Sentence)) → DeeperRegular i → (p q : ℕ) → Regular part (λ r. bind (perhaps mark.Slash r) (value_in i p q))

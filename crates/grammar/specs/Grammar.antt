@@ -1,5 +1,5 @@
 -- The grammar of formulas, from the tightest form to the loosest: which pieces write a sentence, with so many levels left to open.
-use Rattle.std.specs.Prelude.{◌≡◌, ℕ, suc, List, [], ◌∷◌, ◌++◌}
+use Rattle.std.specs.Prelude.{◌≡◌, ℕ, suc, List, [], ◌∷◌, ◌++◌, Some}
 use Rattle.lexer.specs.declared.tokens.Sign.TheVariants as mark
 use Rattle.lexer.specs.Bytes.{value_of}
 use Rattle.lexer.specs.Tokens.{Piece, number, word, sign, Placed}
@@ -14,9 +14,9 @@ place p c = record { piece = p; column = c }
 mutual
   -- true, f n, q n=v, ~T, K p T, V p.q, V p.q/T or (F)
   pub data Term : ℕ → Sentence → List Placed → Type 0 where
-    always : {n c : ℕ} {w : List ℕ} → keyword w ≡ key.True → Term n truth (place (word w) c ∷ [])
-    of_fact : {n c d : ℕ} {w ds : List ℕ} → keyword w ≡ key.Fact → Term n (fact (value_of ds)) (place (word w) c ∷ place (number ds) d ∷ [])
-    of_quantity : {n c d e g : ℕ} {w ds es : List ℕ} → keyword w ≡ key.Quantity
+    always : {n c : ℕ} {w : List ℕ} → keyword w ≡ Some key.True → Term n truth (place (word w) c ∷ [])
+    of_fact : {n c d : ℕ} {w ds : List ℕ} → keyword w ≡ Some key.Fact → Term n (fact (value_of ds)) (place (word w) c ∷ place (number ds) d ∷ [])
+    of_quantity : {n c d e g : ℕ} {w ds es : List ℕ} → keyword w ≡ Some key.Quantity
         → Term n (equals (value_of ds) (value_of es)) (place (word w) c ∷ place (number ds) d ∷ place (sign mark.Equals) e ∷ place (number es) g ∷ [])
     denied : {n c : ℕ} {x : Sentence} {ps : List Placed} → Term n x ps → Term (suc n) (neg x) (place (sign mark.Not) c ∷ ps)
     known : {n c d : ℕ} {ds : List ℕ} {x : Sentence} {ps : List Placed} → Term n x ps → Term (suc n) (knows (value_of ds) x) (place (sign mark.Knows) c ∷ place (number ds) d ∷ ps)

@@ -28,7 +28,7 @@ pub enum CallWord {
     Verdict,
 }
 
-// The word of a call, if it is one.
+// The word of a call, if it is one. No `match` on the bytes: tried, and it gets no proof at words this long.
 #[tactic(auto, unfolding(crate::specs::Calls::call_word))]
 fn call_word(word: &[u8]) -> Option<CallWord>
     ensures { result ≡ call_word word.now }

@@ -18,6 +18,7 @@ pub enum LineFault {
     Word(usize),
 }
 
+// Both by hand: clauses name the fault that `?` makes, and a derived `From` has no clause.
 impl From<FormulaFault> for LineFault {
     ghost from_gives = { λ x y. y ≡ Formula x };
 

@@ -33,7 +33,7 @@ pub enum SettingWord {
     Queue,
 }
 
-// The word of a setting, if it is one.
+// The word of a setting, if it is one. No `match` on the bytes: tried, and it gets no proof at words this long.
 #[tactic(auto, unfolding(crate::specs::Settings::setting_word))]
 fn setting_word(word: &[u8]) -> Option<SettingWord>
     ensures { result ≡ setting_word word.now }
