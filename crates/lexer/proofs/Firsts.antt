@@ -8,12 +8,9 @@ use Rattle.lexer.specs.declared.tokens.Class.{Class}
 use Rattle.lexer.specs.declared.tokens.Class.TheVariants.{Space, Digit, Letter}
 use Rattle.lexer.specs.declared.tokens.Sign.{Sign as Mark}
 use Rattle.lexer.specs.Bytes.{belongs, sign_of}
-use Rattle.lexer.specs.Tokens.{Piece, word, Placed, piece_at, numeral, mark, more, scan}
+use Rattle.lexer.specs.Tokens.{Piece, word, piece_at, numeral, mark, more, scan}
 use borrow.Author.Tests.{ltb-true, ltb-false}
-use Rattle.lexer.specs.declared.tokens.Token.{Token}
-use Rattle.lexer.specs.Faults.{Fault}
-use Rattle.lexer.specs.Steps.{Next, First, Stops}
-use Rattle.lexer.proofs.Scans.{scan_skip, scan_spaces}
+use Rattle.lexer.proofs.Scans.{scan_skip}
 
 -- no space follows spaces
 pub no_space : (bs : List ℕ) → prefix_len (belongs Space) (drop (prefix_len (belongs Space) bs) bs) ≡ 0
@@ -85,21 +82,3 @@ module _ (c : ℕ) (xs : List ℕ) (blank : prefix_len (belongs Space) xs ≡ 0)
     first_mark l o e =
         let P : List ℕ → Type 0 = λ ys. prefix_len (belongs Space) ys ≡ 0 → scan 0 c ys ≡ record { piece = mark o; column = c } ∷ scan 0 (c + 1) (drop 1 ys) in
         subst P (sym (front_is xs b some)) (λ h. mark_at c b (drop 1 xs) h d l o e) blank
-
--- what comes after k spaces comes next
-module _ (c : ℕ) (bs : List ℕ) (k : ℕ) (ys : List ℕ) (run : k ≡ prefix_len (belongs Space) bs) (left : ys ≡ drop k bs) where
-  pub no_space_left : prefix_len (belongs Space) ys ≡ 0
-  no_space_left = ap (prefix_len (belongs Space)) (left ∙ ap (λ n. drop n bs) run) ∙ no_space bs
-
-  module _ (ps : List Placed) (view : scan 0 c bs ≡ ps) where
-    same_pieces : ps ≡ scan 0 (c + k) ys
-    same_pieces = sym view ∙ scan_spaces c bs ∙ sym (ap (λ n. scan 0 (c + n) (drop n bs)) run) ∙ ap (scan 0 (c + k)) (sym left)
-
-    pub stops_after : (e : Fault) → Stops (scan 0 (c + k) ys) e → Stops ps e
-    stops_after e s = (s.0, same_pieces ∙ s.1)
-
-    pub next_after : (t : Token) (m n : ℕ) (zs : List ℕ) → First ys (c + k) t m → n ≡ m → zs ≡ drop n ys → Next ps (record { token = t; column = c + k }) (scan 0 (c + k + n) zs)
-    next_after t m n zs f e z =
-        let P : List Placed → Type 0 = λ l. Next l (record { token = t; column = c + k }) (scan 0 (c + k + n) zs) in
-        let Q : List Placed → Type 0 = λ l. Next (scan 0 (c + k) ys) (record { token = t; column = c + k }) l in
-        subst P (sym same_pieces) (subst Q (ap (λ i. scan 0 (c + k + i) (drop i ys)) (sym e) ∙ ap (scan 0 (c + k + n)) (sym z)) f.next)

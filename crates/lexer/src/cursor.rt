@@ -56,6 +56,7 @@ impl<'a> Cursor<'a> {
     }
 
     // The next token, which is passed, unless it is the end.
+    #[tactic(auto, using(crate::proofs::Firsts::no_space, crate::proofs::Scans::scan_spaces))]
     pub fn next_token(&mut self) -> Result<Lexeme<'a>, TokenFault>
         ensures is_the_next_piece { MatchResult result (λ x. Next self.old x self.new) (λ e. Stops self.old (of_token e)) }
     {

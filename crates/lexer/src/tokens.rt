@@ -146,6 +146,7 @@ impl<'a> Token<'a> {
 }
 
 // The token at the front of bytes that begin with no space and stand at the column.
+#[tactic(auto, using(crate::proofs::Firsts::first_digits, crate::proofs::Firsts::first_letters, crate::proofs::Firsts::first_mark, crate::proofs::Firsts::fits))]
 pub(crate) fn first_token(bytes: &[u8], column: usize) -> Result<Token<'_>, TokenFault>
     requires { prefix_len (belongs Space) bytes.now ≡ 0 }
     ensures { MatchResult result (λ t. First bytes.now column t (size_of t)) (λ e. Stops (scan 0 column bytes.now) (of_token e)) }
