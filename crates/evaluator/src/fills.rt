@@ -20,7 +20,7 @@ fn holds_at<M: Model>(model: &M, nodes: &[Node], place: usize, rows: Rows<'_>, w
     model.survives(world) && is_true(model, nodes[place], rows, world)
 }
 
-// Writes the row of a node.
+// Writes the row of a node. A loop by number: a model has no list of its worlds, and the row is written while the rows before it are read.
 fn fill_row<M: Model>(model: &M, nodes: &[Node], place: usize, work: &mut [u64], words: usize)
     requires { Ready (M.meaning model.now) nodes.now place words work.old }
     ensures { work.new ≡ with_row work.old words place (node_row (M.meaning model.now) nodes.now place) }
@@ -33,7 +33,7 @@ fn fill_row<M: Model>(model: &M, nodes: &[Node], place: usize, work: &mut [u64],
     }
 }
 
-// Writes the rows of nodes 0 to root.
+// Writes the rows of nodes 0 to root. A loop by number: a node is read by its place, which is also its row's.
 pub fn fill_rows<M: Model>(model: &M, nodes: &[Node], root: usize, work: &mut [u64], words: usize)
     requires fillable { Fillable (M.meaning model.now) nodes.now (root + 1) (length work.old) }
     requires per_row { words ≡ words_of (M.meaning model.now).width }

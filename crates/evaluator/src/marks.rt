@@ -18,6 +18,7 @@ pub struct Marked {
     pub survivors: u16,
 }
 
+// The nodes, how many are used and the root are three values, as they are lent: any of them may be wrong, and is then refused.
 // Writes the rows of nodes 0 to root into the work area, in which bit w of a row says whether its node is true at
 // world w, and counts the worlds of the root's row.
 pub fn mark<M: Model>(

@@ -5,7 +5,7 @@ use theory::node::Node;
 
 pub mod writing;
 
-// At most 4,096 nodes. `full` says that one found no place; a line is read on then, since that is its fault only where nothing else is wrong with it.
+// At most 4,096 nodes, in memory that is reserved first. `full` says that one found no place; a line is read on then, since that is its fault only where nothing else is wrong with it.
 #[derive(Drop)]
 pub struct NodeList {
     items: Vec<Node>,

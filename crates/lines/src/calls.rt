@@ -42,7 +42,7 @@ fn call_word(word: &[u8]) -> Option<CallWord>
     }
 }
 
-// What follows the word of a call; the nodes of its formula are appended.
+// What follows the word of a call; the nodes of its formula are appended. Each word has a grammar of its own, so a `match` picks it.
 fn call_rest(
     cursor: &mut Cursor<'_>,
     word: CallWord,

@@ -10,7 +10,7 @@ pub struct MonthDay {
     pub day: u16,
 }
 
-// Dates in the order of their line, with room for as many as a line can have.
+// Dates in the order of their line, in memory that is reserved first for as many as a line can have.
 #[derive(Drop)]
 pub struct DateList {
     pub(crate) items: Vec<MonthDay>,

@@ -51,7 +51,7 @@ fn setting_word(word: &[u8]) -> Option<SettingWord>
     }
 }
 
-// What follows the word of a setting; the list holds its dates, if it is for dates.
+// What follows the word of a setting; the list holds its dates, if it is for dates. Each word has a grammar of its own, so a `match` picks it.
 fn setting_rest(
     cursor: &mut Cursor<'_>,
     word: SettingWord,

@@ -24,7 +24,7 @@ pub fn header_for<M: Model>(model: &M) -> Header
     }
 }
 
-// The quantities' values at a world.
+// The quantities' values at a world. A loop by number: a model has no list of its quantities, and `collect` could fail.
 pub fn quantities_for<M: Model>(model: &M, world: u16) -> Quantities
     ensures asks_each_quantity { result.values.items ≡ quantities_at (M.meaning model.now) world }
 {

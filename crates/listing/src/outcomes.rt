@@ -62,6 +62,7 @@ pub struct Header {
     pub quantities: u16,
 }
 
+// Both by hand: clauses name what `?` makes, and a derived `From` has no clause.
 impl From<LineFault> for Refused {
     ghost from_gives = { λ e r. r ≡ Line e };
 

@@ -7,7 +7,7 @@ ghost use Rattle.looking.specs.Looks.{tells, told, HoldsLook};
 use crate::slots::Slots;
 use model::rows::{MAX_WORDS, has_world, whole_row};
 
-// One look: the agent distinguishes worlds of which exactly one is in the row.
+// One look: the agent distinguishes worlds of which exactly one is in the row, which has a fixed size: a step has no heap.
 #[derive(Clone, Copy, Debug, PartialEq, Eq)]
 pub struct Slot {
     agent: u16,

@@ -1,7 +1,7 @@
 -- Each step keeps the law of a meaning, and reads its row at surviving worlds alone.
 use Rattle.std.proofs.Common.{◌≡◌, ℕ, ◌<◌, ◌≤◌, Bool, true, false, cond, not, ◌&&◌, ◌||◌, eqb, sym, refl, ap, ◌∙◌, arith}
 use Rattle.std.proofs.lemmas.Bool.{and_parts, and_from, or_parts, or_from, false≢true, true≢false, eqb-true}
-use Rattle.model.specs.Meaning.{Meaning, Lawful, Alike, heard, refined, looked, replaced, put, differ}
+use Rattle.model.specs.Meaning.{Meaning, Lawful, Alike, heard, refined, looked, replaced, put, differ, GoneBitsIdle, LawKept}
 
 -- a meaning with the numbers of m
 abbrev pub answering : Meaning → (ℕ → Bool) → (ℕ → ℕ → ℕ → Bool) → (ℕ → ℕ → Bool) → (ℕ → ℕ → ℕ) → Meaning
@@ -159,6 +159,9 @@ lawful_replaced m chosen rows there l = record {
 pub lawful_put : (m : Meaning) (f : ℕ) (row : ℕ → Bool) → f < m.facts → Lawful m → Lawful (put f row m)
 lawful_put m f row lt l = lawful_replaced m (λ g. eqb g f) (λ _. row) (λ g k. omega (arith, eqb-true g f k)) l
 
+pub law_kept : LawKept
+law_kept m l r = (lawful_heard m r l, (λ p. lawful_looked m p r l), (λ f lt. lawful_put m f r lt l))
+
 module _ (m : Meaning) (l : Lawful m) (r r' : ℕ → Bool) (same : (w : ℕ) → m.survives w ≡ true → r w ≡ r' w) where
   and_same : (w : ℕ) (b : Bool) → (b ≡ true → r w ≡ r' w) → (b && r w) ≡ (b && r' w)
   and_same w true k = k refl
@@ -189,3 +192,6 @@ module _ (m : Meaning) (l : Lawful m) (r r' : ℕ → Bool) (same : (w : ℕ) �
   put_same : (f : ℕ) → put f r m ≡ put f r' m
   put_same f = same_answers m (λ w. refl) (λ p u v. refl)
       (λ g w. ap (λ b. cond (eqb g f) b (m.fact g w)) (and_same w (m.survives w) (same w))) (λ q w. refl)
+
+pub gone_bits_idle : GoneBitsIdle
+gone_bits_idle m l r r' same = (heard_same m l r r' same, looked_same m l r r' same, put_same m l r r' same)

@@ -3,7 +3,7 @@ ghost use Rattle.std.specs.Prelude.{◌≡◌};
 ghost use Rattle.model.specs.Meaning.{Meaning, Lawful};
 
 // A set of possible worlds with what each agent can distinguish and what holds at each world.
-// Worlds, agents, facts and quantities go by their numbers, from 0. Every question answers the
+// Worlds, agents, facts and quantities go by their numbers, from 0, each a parameter of its own, since any number may be asked about. Every question answers the
 // meaning, for every number, and alters nothing.
 pub trait Model {
     ghost meaning: { Self → Meaning };

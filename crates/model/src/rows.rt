@@ -22,6 +22,7 @@ fn word_at(row: &[u64], place: usize) -> u64
     row.get(place).copied().unwrap_or(0)
 }
 
+// Word and place stay two numbers here and below: a type for a place below 64 would be made anew at each of three calls.
 fn has_digit(word: u64, place: u16) -> bool
     requires { place < 64 }
     ensures { result ≡ digit word place }
@@ -60,7 +61,7 @@ pub fn add_world(row: &mut [u64], world: u16)
     }
 }
 
-// Takes the world out of the row.
+// Takes the world out of the row. It stands beside `add_world`: one function that takes the operation as a closure is longer than both.
 pub fn remove_world(row: &mut [u64], world: u16)
     ensures clears_the_bit { row.new ≡ without_world row.old world }
 {

@@ -14,7 +14,7 @@ use stages::hearing::HearingLayer;
 use steps::lists::take_steps;
 use steps::requests::Step;
 
-// Takes the steps on the stage, writes what each answered, and judges what is left.
+// Takes the steps on the stage, writes what each answered into a list that is lent, and judges what is left.
 pub fn play<S: Stage + Drop>(
     mut stage: S,
     steps: &[Step<'_>],

@@ -14,7 +14,7 @@ use model::stages::{Stage, check_number, check_row};
 // How many facts a model can have.
 const MAX_FACTS: usize = 16;
 
-// A fact that was put is true exactly at the surviving worlds of its row.
+// A fact that was put is true exactly at the surviving worlds of its row. There is a place for each fact: a step has no heap.
 #[derive(Drop)]
 pub struct PuttingLayer<S> {
     below: S,

@@ -85,6 +85,7 @@ impl<M: PuzzleModel> Stage for Floor<M> {
         Err(Refusal::NotTaken)
     }
 
+    // As a look: the same three calls, over facts in place of agents; what they share is these calls.
     fn put(&mut self, fact: u16, row: &[u64]) -> Result<(), Refusal> {
         check_row(row, &self.model)?;
         check_number(fact, self.model.facts())?;

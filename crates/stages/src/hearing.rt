@@ -12,7 +12,7 @@ use model::rows::{MAX_WORDS, has_world, whole_row};
 use model::stages::{Stage, check_row};
 use std::array;
 
-// Only the worlds of the row survive of those that survive below.
+// Only the worlds of the row survive of those that survive below. The row has a fixed size: a step has no heap.
 #[derive(Drop)]
 pub struct HearingLayer<S> {
     below: S,

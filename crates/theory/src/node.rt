@@ -56,7 +56,7 @@ impl TryFrom<Node> for Shape {
     }
 }
 
-// Numbers that a kind does not use are 0.
+// Numbers that a kind does not use are 0. By hand, since a derive has no clause.
 impl From<Shape> for Node {
     ghost from_gives = { λ s n. n ≡ node_of s };
 

@@ -1,4 +1,4 @@
-// What is answered to a line: 0 and 0 where it is accepted, else the fault's number and column.
+// What is answered to a line: 0 and 0 where it is accepted, else the number and column that a listing prints. The tables stay in numbers, to be read beside the rules.
 use lines::dates::DateList;
 use lines::faults::LineFault;
 use lines::settings::read_setting;

@@ -1,4 +1,4 @@
-// Lists of all number pairs within bounds.
+// Lists of all number pairs within bounds. The bounds stay two numbers, as a line says them: any two may be asked for.
 ghost use Rattle.std.specs.Prelude.{◌≡◌, ℕ, ◌+◌, ◌-◌, ◌*◌, ◌<◌, ◌≤◌, true, map, length, is_ok};
 ghost use Rattle.settings.specs.Pairs.{row_from, pairs, fill_answer, filled, PairsListed};
 ghost use Rattle.settings.specs.Readings.{numbers};
@@ -53,7 +53,7 @@ fn admit(places: usize, low: u16, sum: u16) -> Result<usize, Refusal>
     Ok(count)
 }
 
-// Writes all pairs to the front of the list.
+// Writes all pairs to the front of the list. The start of a row is carried on, since rows differ in length.
 fn write_pairs(list: &mut [Pair], low: u16, sum: u16)
     requires is_admitted { is_ok (fill_answer low sum (length list.old)) ≡ true }
     ensures fills_the_front { map numbers list.new ≡ filled low sum (map numbers list.old) }

@@ -1,5 +1,5 @@
-use Rattle.std.proofs.Common.{length, refl, arith, length-set}
-use Rattle.settings.proofs.Listing.{row_begun, row_further, row_written}
+use Rattle.std.proofs.Common.{refl, arith, length-set}
+use Rattle.settings.proofs.Listing.{row_begun, row_further}
 use Rattle.settings.specs.Readings.{numbers}
 use Rattle.settings.proofs.pairs.filling.write_row.Goals as goal
 
