@@ -54,7 +54,7 @@ fn first_unsound<M: Model>(model: &M, nodes: &[Node], used: usize) -> Option<usi
     (0..used).find(|place| !is_sound(model, *place, nodes[*place]))
 }
 
-// The first cause of refusal, if there is one.
+// The first cause of refusal, if there is one. It stands apart from `check` so as to have no proof file, which would leave its edits without meaning.
 fn first_cause<M: Model>(
     model: &M,
     nodes: &[Node],

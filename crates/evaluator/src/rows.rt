@@ -40,7 +40,8 @@ impl<'a> Rows<'a> {
     }
 }
 
-// Takes all worlds out of the row of a node.
+// Takes all worlds out of the row of a node. This and the next take the area and its words apart: a struct that holds them to be
+// written would be made anew for each call, since the rows before are read in between.
 pub fn clear_row(work: &mut [u64], words: usize, node: usize)
     requires { HasRow node words (length work.old) }
     ensures { work.new ≡ with_row work.old words node (replicate words 0) }

@@ -31,7 +31,8 @@ fn knows<M: Model>(model: &M, agent: u16, world: u16, row: &[u64]) -> bool
     (0..model.width()).all(|other| has_if_reached(model, agent, world, row, other))
 }
 
-// Whether the quantity is equal at all worlds of the row that the agent reaches. A loop by number: the value seen first is kept for those after it.
+// Whether the quantity is equal at all worlds of the row that the agent reaches. A loop: as a `find` and an `all` it takes
+// three functions of six parameters each, no plainer.
 fn knows_value<M: Model>(model: &M, agent: u16, quantity: u16, world: u16, row: &[u64]) -> bool
     ensures { result ≡ constant (M.meaning model.now) quantity (λ v. reaches (M.meaning model.now) agent world v && bit row.now v) }
 {

@@ -13,7 +13,8 @@ use lexer::cursor::Cursor;
 use lexer::tokens::{Sign, Token};
 use theory::node::Shape;
 
-// One level down, if there is one; else the token at the column opens a level too many.
+// One level down, if there is one; else the token at the column opens a level too many. Levels and column stay two numbers: the fault
+// is at the token that opens the level, which is another at each call.
 fn deeper(levels: u8, column: usize) -> Result<u8, FormulaFault>
     ensures { MatchResult result (λ n. levels ≡ n + 1) (λ e. (levels ≡ 0) × (e ≡ FormulaFault.Level column)) }
 {

@@ -9,7 +9,7 @@ pub enum Keyword {
     Quantity,
 }
 
-// The word of a formula, if it is one.
+// The word of a formula, if it is one. Each has a grammar of its own, so a `match` picks it.
 #[tactic(auto, unfolding(crate::specs::Readers::keyword))]
 pub fn keyword_of(word: &[u8]) -> Option<Keyword>
     ensures { result ≡ keyword word.now }

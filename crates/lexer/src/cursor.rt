@@ -1,5 +1,5 @@
 // A place on a line, where its tokens are read.
-ghost use Rattle.std.specs.Prelude.{◌≡◌, MatchResult};
+ghost use Rattle.std.specs.Prelude.{◌≡◌, MatchResult, OnErr};
 ghost use Rattle.lexer.specs.Tokens.{pieces_from};
 ghost use Rattle.lexer.specs.Faults.{of_token};
 ghost use Rattle.lexer.specs.Steps.{Next, Stops};
@@ -55,10 +55,11 @@ impl<'a> Cursor<'a> {
         }
     }
 
-    // The next token, which is passed, unless it is the end.
+    // The next token, which is passed, unless it is the end. A fault is not passed.
     #[tactic(auto, using(crate::proofs::Firsts::no_space, crate::proofs::Scans::scan_spaces))]
     pub fn next_token(&mut self) -> Result<Lexeme<'a>, TokenFault>
         ensures is_the_next_piece { MatchResult result (λ x. Next self.old x self.new) (λ e. Stops self.old (of_token e)) }
+        ensures stays_at_a_fault { OnErr result (self.new ≡ self.old) }
     {
         let spaces = run(self.rest, Class::Space);
         let begun = after(self.rest, spaces);

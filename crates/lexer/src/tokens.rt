@@ -54,7 +54,7 @@ pub enum TokenFault {
     Number(usize),
 }
 
-// What a run of bytes is made of.
+// What a run of bytes is made of: a value and no closure, since the definitions of tokens speak of classes.
 #[derive(Clone, Copy, Debug, PartialEq, Eq)]
 pub enum Class {
     Space,

@@ -10,6 +10,7 @@ pub struct MonthDay {
     pub day: u16,
 }
 
+// Beside the list of nodes of formulas it shares the bounds of a `Vec`, and no function.
 // Dates in the order of their line, in memory that is reserved first for as many as a line can have.
 #[derive(Drop)]
 pub struct DateList {

@@ -47,6 +47,7 @@ impl LineFault {
         }
     }
 
+    // 0 where there is none, as it is listed.
     pub fn column(self) -> usize
         ensures is_its_column { result ≡ (of_line self).column }
     {

@@ -20,6 +20,7 @@ use lexer::cursor::Cursor;
 pub enum Setting {
     Pairs { low: u16, sum: u16 },
     Dates,
+    // Two variants for two words: what they have in common is no matter of the line.
     Circle { agents: u16 },
     Queue { agents: u16 },
 }

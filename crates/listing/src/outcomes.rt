@@ -92,7 +92,7 @@ impl Refused {
         }
     }
 
-    // Its column from 1, or 0 where it has none.
+    // Its column from 1, or 0 where it has none, as it is listed.
     pub fn column(self) -> usize
         ensures is_its_column { result ≡ (refused_in self).column }
     {

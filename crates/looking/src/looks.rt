@@ -32,7 +32,7 @@ impl Slot {
         agent == self.agent && has_world(&self.row, left) != has_world(&self.row, right)
     }
 
-    // Writes the look into the slot.
+    // Writes the look into the slot. Agent and row stay two parameters, as a stage is asked: each has a refusal of its own.
     pub fn fill(&mut self, agent: u16, row: &[u64])
         ensures holds_the_look { HoldsLook agent row.now self.new }
     {

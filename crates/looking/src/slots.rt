@@ -4,7 +4,7 @@ ghost use Rattle.std.specs.Prelude.{◌≡◌, ◌≤◌, length};
 // How many slots a table has.
 pub const MAX_SLOTS: usize = 16;
 
-// The first `used` slots are filled. It stays a fixed array with a count: a step has no heap, and lends the next slot.
+// The first `used` slots are filled. A rule of the project keeps it a plain array with a count: the next slot is lent out of it.
 #[derive(Drop)]
 pub struct Slots<T> {
     slots: [T; MAX_SLOTS],

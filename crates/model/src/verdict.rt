@@ -21,7 +21,7 @@ pub enum Verdict {
     },
 }
 
-// How many worlds below an end survive.
+// How many worlds below an end survive. This and the next two carry the proofs, so that the public functions have no proof file, for their edits.
 fn survivors_below<M: Model>(model: &M, end: u16) -> u16
     ensures { result ≡ count (M.meaning model.now).survives «end» }
 {

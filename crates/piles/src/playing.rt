@@ -80,7 +80,7 @@ impl<M: Model> Pile<M> for LookingLayer<HearingLayer<LookingLayer<PuttingLayer<F
     }
 }
 
-// Takes the steps on the pile over the model, and judges what is left.
+// Takes the steps on the pile over the model, and judges what is left. Model, steps and answers are lent apart, each by whom it belongs to.
 pub fn play_over<M: Model, P: Pile<M> + Drop>(
     model: M,
     steps: &[Step<'_>],

@@ -25,7 +25,7 @@ pub fn take_step<S: Stage>(stage: &mut S, step: Step<'_>) -> Result<(), Refusal>
     dispatch(stage, step)
 }
 
-// Makes the call that the step stands for.
+// Makes the call that the step stands for. It stands apart from `take_step` so as to have no proof file, for its edits.
 fn dispatch<S: Stage>(stage: &mut S, step: Step<'_>) -> Result<(), Refusal>
     ensures takes_the_step { Steps (action_of step.entry) (stage_of S.Model.meaning S.Stage.takes stage.old) result (stage_of S.Model.meaning S.Stage.takes stage.new) }
 {

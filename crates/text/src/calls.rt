@@ -7,7 +7,7 @@ use formulas::parts::end;
 use lines::faults::LineFault;
 use lines::firsts::{first_word, start};
 
-// What a later line asks for.
+// What a later line asks for. It stands beside the one of `lines`, since the program refuses lines `where` as yet.
 #[derive(Clone, Copy, Debug, PartialEq, Eq)]
 pub enum Call {
     Verdict,

@@ -103,6 +103,7 @@ const CALLS: [(&str, u16, usize); 20] = [
     ("0", 17, 1),
 ];
 
+// The two numbers of a fault, as the tables have them.
 fn shown(fault: LineFault) -> (u16, usize) {
     (fault.number(), fault.column())
 }

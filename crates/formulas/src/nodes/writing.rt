@@ -42,7 +42,7 @@ impl NodeList {
         self.full
     }
 
-    // The number of the node written last, and 0 where there is none.
+    // The number of the node written last, and 0 where there is none: no `Option`, as it is asked for right after a node was written.
     pub fn last(&self) -> u16
         ensures is_the_last_node { result ≡ last (store_of self.now) }
     {

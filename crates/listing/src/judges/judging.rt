@@ -25,7 +25,7 @@ impl Judge {
         })
     }
 
-    // Lists a puzzle text, whatever its bytes are.
+    // Lists a puzzle text, whatever its bytes are. Line 0 and column 0 stand for none, as a listing prints them.
     pub fn judge(&mut self, text: &[u8])
         ensures holds_the_page { page_of self.new.sheet ≡ page text.now }
         ensures prints_the_listing { written (page_of self.new.sheet) ≡ listing text.now }

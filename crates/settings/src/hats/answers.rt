@@ -11,6 +11,7 @@ use crate::hats::{Hats, MAX_AGENTS};
 use crate::sight::Sight;
 use model::questions::Model as PuzzleModel;
 use model::refusals::Refusal;
+use model::rows::has_world;
 
 impl Hats {
     // A circle or a queue of 1 to 12 agents.
@@ -51,7 +52,7 @@ fn is_set(world: u16, fact: u16) -> bool
     requires is_a_bit { fact < 16 }
     ensures is_the_digit { result ≡ digit world fact }
 {
-    (world >> fact) % 2 == 1
+    has_world(&[u64::from(world)], fact)
 }
 
 // How many facts of a world of so many facts are true.
