@@ -1,11 +1,9 @@
 -- Tests that every number passes, one number after another.
-use Rattle.std.proofs.Common.{◌≡◌, ℕ, zero, suc, ◌+◌, ◌<◌, Bool, true, false, not, ◌&&◌, eqb, Some, None, Option, unwrap_or, sym, refl, ap, ◌∙◌, subst, ap₂, inl, inr, ⊎_elim, arith}
+use Rattle.std.proofs.Common.{◌≡◌, ℕ, zero, suc, ◌+◌, ◌<◌, Bool, true, false, ◌&&◌, eqb, Some, Option, unwrap_or, sym, refl, ap, ◌∙◌, subst, ap₂, ⊎_elim, arith}
 use Rattle.std.specs.List.{list_all, range_with_len}
-use Rattle.std.proofs.lemmas.Bool.{cases_lt, cases_Bool, and_left, and_right, and_from, both_ways, eq-eqb, ne_eqb}
+use Rattle.std.proofs.lemmas.Bool.{cases_lt, cases_Bool, and_left, and_right, and_from, eq-eqb, ne_eqb}
 use Rattle.model.specs.Meaning.{Meaning}
-use Rattle.model.specs.Rows.{implies, every, least}
-use Rattle.model.proofs.Counts.{least_is}
-use Rattle.model.proofs.Ranges.{IsFirst}
+use Rattle.model.specs.Rows.{implies, every}
 use Rattle.theory.specs.Truth.{constant}
 
 pub every_true : (n : ℕ) (p : ℕ → Bool) → ((v : ℕ) → v < n → p v ≡ true) → every p n ≡ true
@@ -26,11 +24,6 @@ implied_else x y e = ap (λ (b : Bool). implies b y) e
 
 pub implied_then : (x y : Bool) → x ≡ true → implies x y ≡ y
 implied_then x y e = ap (λ (b : Bool). implies b y) e
-
-pub not_implied : (x y : Bool) → (x && not y) ≡ true → implies x y ≡ false
-not_implied true true e = sym e
-not_implied true false e = refl
-not_implied false y e = absurd (both_ways false refl e)
 
 -- a list of all that stand from a on passes where every number does
 every_front : (f : ℕ → Bool) (n : ℕ) → every f (suc n) ≡ (f 0 && every (λ k. f (suc k)) n)
@@ -54,11 +47,6 @@ all_from t f a (suc n) h =
 
 pub all_below : (t : ℕ → Bool) (n : ℕ) → list_all t (range_with_len 0 n) ≡ every t n
 all_below t n = all_from t t 0 n (λ k. let same : 0 + k ≡ k = omega arith in ap t same)
-
--- the first number below n that passes, if any does, is the least
-pub first_below : (p : ℕ → Bool) (n : ℕ) (r : Option ℕ) → IsFirst p 0 n r → unwrap_or r n ≡ least p n
-first_below p n None h = least_is p n n (record { none_before = λ v k. h v (omega arith) k; found = inr refl })
-first_below p n (Some w) h = least_is p n w (record { none_before = λ v k. h.3 v (omega arith) k; found = inl (h.1, h.2) })
 
 -- what a loop over the worlds below v has seen of quantity q at those that pass p: the one value, if there was any
 pub record Seen (m : Meaning) (q : ℕ) (p : ℕ → Bool) (v : ℕ) (seen : Option ℕ) : Type 0 where

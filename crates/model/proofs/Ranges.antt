@@ -32,11 +32,20 @@ module _ (p : ℕ → Bool) where
   IsFirst a n r = MatchOption r ((k : ℕ) → a ≤ k → k < n → p k ≡ false)
       (λ i. (a ≤ i) × (i < n) × (p i ≡ true) × ((k : ℕ) → a ≤ k → k < i → p k ≡ false))
 
+  -- from 0 on it is the least below n
+  pub first_below : (n : ℕ) (r : Option ℕ) → IsFirst 0 n r → unwrap_or r n ≡ least p n
+  first_below n None h = least_is p n n (record { none_before = λ v k. h v (omega arith) k; found = inr refl })
+  first_below n (Some w) h = least_is p n w (record { none_before = λ v k. h.3 v (omega arith) k; found = inl (h.1, h.2) })
+
+module _ (p : ℕ → Bool) where
   fails : (a n v : ℕ) → ((k : ℕ) → a ≤ k → k < n → p k ≡ false) → v < n → (leb a v && p v) ≡ false
   fails a n v h k = ⊎_elim (λ l. and_left (leb a v) (p v) (lt-leb a v l)) (λ l. and_right (leb a v) (p v) (h v l k)) (cases_lt v a)
 
-  -- is the least of them
-  pub first_is_least : (a n : ℕ) (r : Option ℕ) → IsFirst a n r → unwrap_or r n ≡ least (λ w. leb a w && p w) n
-  first_is_least a n None h = least_is (λ w. leb a w && p w) n n (record { none_before = λ v k. fails a n v h k; found = inr refl })
-  first_is_least a n (Some w) h =
-      least_is (λ v. leb a v && p v) n w (record { none_before = λ v k. fails a w v h.3 k; found = inl (h.1, and_from (leb a w) (p w) (le-leb a w h.0) h.2) })
+  -- from 0 on it is the first that passes and is not below a
+  from_zero : (a n : ℕ) (r : Option ℕ) → IsFirst p a n r → IsFirst (λ w. leb a w && p w) 0 n r
+  from_zero a n None h = λ v z k. fails a n v h k
+  from_zero a n (Some w) h = (omega arith, h.1, and_from (leb a w) (p w) (le-leb a w h.0) h.2, λ v z k. fails a w v h.3 k)
+
+  -- so it is the least of those
+  pub first_is_least : (a n : ℕ) (r : Option ℕ) → IsFirst p a n r → unwrap_or r n ≡ least (λ w. leb a w && p w) n
+  first_is_least a n r h = first_below (λ w. leb a w && p w) n r (from_zero a n r h)

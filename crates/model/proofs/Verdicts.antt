@@ -33,9 +33,6 @@ module _ (m : Meaning) (l : Lawful m) where
       gone : ((w : ℕ) → 0 ≤ w → m.survives w ≡ true → ⊥) → (v : ℕ) → m.survives v ≡ false
       gone none v = ⊎_elim (λ s. absurd (none v (omega arith) s)) (λ s. s) (cases_Bool (m.survives v))
 
-  pub lowest_below : (survivors_of m ≡ 0 → ⊥) → lowest_of m < 4096
-  lowest_below ne = omega (arith, l.within (lowest_of m) (lowest_survives ne), l.few_worlds)
-
   only_lowest : (survivors_of m ≡ 0 → ⊥) → survivors_of m ≡ 1 → (v : ℕ) → m.survives v ≡ true → v ≡ lowest_of m
   only_lowest ne e v s = go (cases_order v (lowest_of m))
     where

@@ -1,5 +1,5 @@
 -- Lists of number pairs: how they are counted and written, and that they hold just the pairs within the bounds.
-use Rattle.std.proofs.Common.{◌≡◌, ℕ, zero, suc, ◌+◌, ◌-◌, ◌*◌, ◌<◌, ◌≤◌, Bool, true, false, cond, ◌||◌, eqb, ltb, leb, List, [], ◌∷◌, ◌++◌, map, length, take, drop, take_all, set, is_ok, Ok, Err, Result, sym, refl, ap, ◌∙◌, subst, ap₂, inl, inr, ⊎_elim, arith}
+use Rattle.std.proofs.Common.{◌≡◌, ℕ, zero, suc, ◌+◌, ◌-◌, ◌*◌, ◌<◌, ◌≤◌, Bool, true, false, cond, ◌||◌, eqb, ltb, leb, List, [], ◌∷◌, ◌++◌, map, length, take, drop, set, is_ok, Ok, Err, Result, sym, refl, ap, ◌∙◌, subst, ap₂, inl, inr, ⊎_elim, arith}
 use lib.Seq.{sets, sets-eq}
 use borrow.Rule.Slice.PartMut.{put_mid}
 use Rattle.std.proofs.lemmas.List.Sums.{sum_by-cons}
@@ -74,9 +74,6 @@ module _ {P : Type 0} (f : P → ℕ × ℕ) where
       ap (take (i + 1)) (map-set f xs i a) ∙ take_more_set (map f xs) i (f a) (omega (arith, length-map xs f))
       ∙ ap₂ (λ (l : List (ℕ × ℕ)) (p : ℕ × ℕ). l ++ p ∷ []) inv e
       ∙ sym (map-range_with_len_more (λ z. (x, z)) (x + 1) i (x + 1 + i) refl)
-
-  pub row_written : (xs : List P) (x i n : ℕ) → length xs ≡ n → i ≡ n → take i (map f xs) ≡ row_from x (x + 1) i → map f xs ≡ row_from x (x + 1) n
-  row_written xs x i n e h inv = sym (take_all i (map f xs) (omega (arith, length-map xs f))) ∙ inv ∙ ap (row_from x (x + 1)) h
 
   -- a row in its place
   pub row_placed : (xs ys : List P) (i n : ℕ) (vs : List (ℕ × ℕ)) → map f ys ≡ vs → length vs ≡ n → i + n ≤ length xs → map f (put_mid i n xs ys) ≡ sets (map f xs) i vs

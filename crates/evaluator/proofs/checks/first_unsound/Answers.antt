@@ -2,7 +2,7 @@ use Rattle.std.proofs.Common.{rules, ◌≡◌, true, false}
 use borrow.Author.Tests.{tests}
 use Rattle.std.proofs.lemmas.Iterator.{first_from_Range}
 use Rattle.evaluator.specs.Checks.{unsound}
-use Rattle.evaluator.proofs.Every.{first_below}
+use Rattle.model.proofs.Ranges.{first_below}
 use Rattle.evaluator.proofs.checks.first_unsound.Goals as goal
 
 pub returns-clause-lowest : goal.returns-clause-lowest
