@@ -31,6 +31,14 @@ module _ (p : ℕ → Bool) where
   unfolding count
   count_none = refl
 
+  pub count_yes : (n k : ℕ) → k ≡ count p n → p n ≡ true → k + 1 ≡ count p (n + 1)
+  unfolding count
+  count_yes n k e t = let x : n + 1 ≡ suc n = omega arith in rw (e, x, t) (omega arith)
+
+  pub count_no : (n k : ℕ) → k ≡ count p n → p n ≡ false → k ≡ count p (n + 1)
+  unfolding count
+  count_no n k e t = let x : n + 1 ≡ suc n = omega arith in rw (e, x, t) (omega arith)
+
   pub count_le : (n : ℕ) → count p n ≤ n
   count_le zero = omega (arith, count_none)
   count_le (suc n) = ⊎_elim (λ s. omega (arith, s.1, count_le n)) (λ s. omega (arith, s.1, count_le n)) (count_suc n)
@@ -96,6 +104,10 @@ module _ (p : ℕ → Bool) where
 
   pub least_fits : (n : ℕ) → Least n (least p n)
   least_fits n = let x = least_has n in let e = least_is n x.0 x.1 in rw e at x.1
+
+  -- some number passes, so the least does
+  pub least_passes : (n v : ℕ) → v < n → p v ≡ true → (least p n < n) × (p (least p n) ≡ true)
+  least_passes n v l e = ⊎_elim (λ f. f) (λ f. absurd (false≢true (sym ((least_fits n).none_before v (omega arith)) ∙ e))) (least_fits n).found
 
   -- one passes and no other does: one is counted
   pub one_counted : (n w : ℕ) → w < n → p w ≡ true → ((v : ℕ) → v < n → p v ≡ true → v ≡ w) → count p n ≡ 1

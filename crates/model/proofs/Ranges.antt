@@ -1,10 +1,10 @@
 -- Numbers of a range that pass a test, against counting and the least that passes.
 use Rattle.std.proofs.Common.{◌≡◌, ℕ, zero, suc, ◌+◌, ◌<◌, ◌≤◌, Bool, true, false, cond, ◌&&◌, leb, [], ◌∷◌, length, map, Some, None, Option, unwrap_or, sym, refl, ap, ◌∙◌, inl, inr, ⊎_elim, arith}
-use Rattle.std.specs.List.{filter, range_with_len}
+use Rattle.std.specs.List.{filter, range_with_len, sum_by}
 use Rattle.std.specs.Option.{MatchOption}
 use Rattle.std.proofs.lemmas.Bool.{cases_lt, and_from, and_left, and_right, le-leb, lt-leb}
 use Rattle.std.proofs.lemmas.List.{map-id, length-append}
-use Rattle.std.proofs.lemmas.List.FromFn.{filter_of_map_range_with_len_more}
+use Rattle.std.proofs.lemmas.List.FromFn.{filter_of_map_range_with_len_more, sum_by-map-range_with_len_more}
 use Rattle.model.specs.Rows.{count, least}
 use Rattle.model.proofs.Counts.{least_is}
 
@@ -26,6 +26,19 @@ module _ (p : ℕ → Bool) where
   -- a filter keeps as many numbers below n as are counted
   pub counted : (n : ℕ) → length (filter p (range_with_len 0 n)) ≡ count p n
   counted n = ap (λ xs. length (filter p xs)) (sym (map-id (range_with_len 0 n))) ∙ counted_as n
+
+  summed_as : (n : ℕ) → sum_by (λ w. cond (p w) 1 0) (map (λ x. x) (range_with_len 0 n)) ≡ count p n
+  unfolding count
+  summed_as zero = refl
+  summed_as (suc n) =
+      let next : suc n ≡ n + 1 = omega arith in
+      ap (λ (k : ℕ). sum_by (λ w. cond (p w) 1 0) (map (λ x. x) (range_with_len 0 k))) next
+      ∙ sum_by-map-range_with_len_more (λ w. cond (p w) 1 0) (λ x. x) 0 n n (omega arith)
+      ∙ omega (arith, summed_as n)
+
+  -- a 1 for each number below n that passes, added up, is as many as are counted
+  pub summed : (n : ℕ) → sum_by (λ w. cond (p w) 1 0) (range_with_len 0 n) ≡ count p n
+  summed n = ap (λ xs. sum_by (λ w. cond (p w) 1 0) xs) (sym (map-id (range_with_len 0 n))) ∙ summed_as n
 
   -- the first that passes of the numbers from a to n, if any does
   abbrev pub IsFirst : ℕ → ℕ → Option ℕ → Type 0

@@ -1,7 +1,7 @@
 -- Each step keeps the law of a meaning, and reads its row at surviving worlds alone.
 use Rattle.std.proofs.Common.{◌≡◌, ℕ, ◌<◌, ◌≤◌, Bool, true, false, cond, not, ◌&&◌, ◌||◌, eqb, sym, refl, ap, ◌∙◌, arith}
-use Rattle.std.proofs.lemmas.Bool.{and_parts, and_from, or_parts, or_from, false≢true, true≢false}
-use Rattle.model.specs.Meaning.{Meaning, Lawful, Alike, heard, refined, looked, replaced, put, differ, GoneBitsIdle}
+use Rattle.std.proofs.lemmas.Bool.{and_parts, and_from, or_parts, or_from, false≢true, true≢false, eqb-true}
+use Rattle.model.specs.Meaning.{Meaning, Lawful, Alike, heard, refined, looked, replaced, put, differ, GoneBitsIdle, LawKept}
 
 -- a meaning with the numbers of m
 abbrev pub answering : Meaning → (ℕ → Bool) → (ℕ → ℕ → ℕ → Bool) → (ℕ → ℕ → Bool) → (ℕ → ℕ → ℕ) → Meaning
@@ -128,6 +128,9 @@ look_splits q row = record {
       look_from (eqb p q) (row u) (row w) (λ b. look_parts (eqb p q) (row u) (row v) e b ∙ look_parts (eqb p q) (row v) (row w) f b);
 }
 
+pub lawful_looked : (m : Meaning) (q : ℕ) (row : ℕ → Bool) → Lawful m → Lawful (looked q row m)
+lawful_looked m q row l = lawful_refined m (λ p u v. eqb p q && differ (row u) (row v)) (look_splits q row) l
+
 pub lawful_replaced : (m : Meaning) (chosen : ℕ → Bool) (rows : ℕ → ℕ → Bool) → ((g : ℕ) → chosen g ≡ true → g < m.facts) → Lawful m → Lawful (replaced chosen rows m)
 lawful_replaced m chosen rows there l = record {
   some_world = l.some_world;
@@ -152,6 +155,12 @@ lawful_replaced m chosen rows there l = record {
     at : (g w : ℕ) (b : Bool) → chosen g ≡ b → cond b (m.survives w && rows g w) (m.fact g w) ≡ true → (g < m.facts) × (m.survives w ≡ true)
     at g w true k e = (there g k, (and_parts _ _ e).0)
     at g w false k e = l.fact_there g w e
+
+pub lawful_put : (m : Meaning) (f : ℕ) (row : ℕ → Bool) → f < m.facts → Lawful m → Lawful (put f row m)
+lawful_put m f row lt l = lawful_replaced m (λ g. eqb g f) (λ _. row) (λ g k. omega (arith, eqb-true g f k)) l
+
+pub law_kept : LawKept
+law_kept m l r = (lawful_heard m r l, (λ p. lawful_looked m p r l), (λ f lt. lawful_put m f r lt l))
 
 module _ (m : Meaning) (l : Lawful m) (r r' : ℕ → Bool) (same : (w : ℕ) → m.survives w ≡ true → r w ≡ r' w) where
   and_same : (w : ℕ) (b : Bool) → (b ≡ true → r w ≡ r' w) → (b && r w) ≡ (b && r' w)

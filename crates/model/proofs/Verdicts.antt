@@ -33,6 +33,9 @@ module _ (m : Meaning) (l : Lawful m) where
       gone : ((w : ℕ) → 0 ≤ w → m.survives w ≡ true → ⊥) → (v : ℕ) → m.survives v ≡ false
       gone none v = ⊎_elim (λ s. absurd (none v (omega arith) s)) (λ s. s) (cases_Bool (m.survives v))
 
+  pub lowest_below : (survivors_of m ≡ 0 → ⊥) → lowest_of m < 4096
+  lowest_below ne = omega (arith, l.within (lowest_of m) (lowest_survives ne), l.few_worlds)
+
   only_lowest : (survivors_of m ≡ 0 → ⊥) → survivors_of m ≡ 1 → (v : ℕ) → m.survives v ≡ true → v ≡ lowest_of m
   only_lowest ne e v s = go (cases_order v (lowest_of m))
     where
@@ -73,7 +76,7 @@ module _ (m : Meaning) (l : Lawful m) where
     pub names : NamesTheSurvivors m v
 
   module _ (n : ℕ) (many : n ≡ survivors_of m) where
-    right_none : n ≡ 0 → Right Contradiction
+    pub right_none : n ≡ 0 → Right Contradiction
     unfolding verdict_of
     right_none e = record {
       is = sym (cond-true (eqb (survivors_of m) 0) _ _ (eq-eqb (survivors_of m) 0 (sym many ∙ e)));
@@ -84,7 +87,7 @@ module _ (m : Meaning) (l : Lawful m) where
       counted : survivors_of m ≡ 0 → ⊥
       counted z = some (many ∙ z)
 
-      right_one : (u : ℕ) → u ≡ lowest_of m → n ≡ 1 → Right (Unique u)
+      pub right_one : (u : ℕ) → u ≡ lowest_of m → n ≡ 1 → Right (Unique u)
       unfolding verdict_of
       right_one u low e = record {
         is =
@@ -93,7 +96,7 @@ module _ (m : Meaning) (l : Lawful m) where
         names = (ap m.survives low ∙ lowest_survives counted, λ v s. only_lowest counted (sym many ∙ e) v s ∙ sym low);
       }
 
-      right_more : (u v : ℕ) → u ≡ lowest_of m → v ≡ least (survives_from m (u + 1)) m.width → (n ≡ 1 → ⊥) → Right (Rivals n u v)
+      pub right_more : (u v : ℕ) → u ≡ lowest_of m → v ≡ least (survives_from m (u + 1)) m.width → (n ≡ 1 → ⊥) → Right (Rivals n u v)
       unfolding verdict_of
       right_more u v low high more =
           let next : u + 1 ≡ suc (lowest_of m) = omega arith in

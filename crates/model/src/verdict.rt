@@ -21,11 +21,11 @@ pub enum Verdict {
     },
 }
 
-// How many worlds below an end survive. This and the next two carry the proofs, so that the public functions have no proof file, for their edits.
+// How many worlds below an end survive: a world adds 0 or 1, so that no branch waits for each answer. This and the next two carry the proofs, so that the public functions have no proof file, for their edits.
 fn survivors_below<M: Model>(model: &M, end: u16) -> u16
     ensures { result ≡ count (M.meaning model.now).survives «end» }
 {
-    (0..end).filter(|world| model.survives(*world)).count() as u16
+    (0..end).map(|world| u16::from(model.survives(world))).sum()
 }
 
 // How many worlds survive.
@@ -57,9 +57,15 @@ fn verdict_among<M: Model>(model: &M, count: u16) -> Verdict
     ensures is { result ≡ verdict_of (M.meaning model.now) }
     ensures names { NamesTheSurvivors (M.meaning model.now) result }
 {
+    if count == 0 {
+        return Verdict::Contradiction;
+    }
     let Some(lowest) = lowest_from(model, 0) else {
         return Verdict::Contradiction;
     };
+    if count == 1 {
+        return Verdict::Unique { world: lowest };
+    }
     match lowest_from(model, lowest + 1) {
         None => Verdict::Unique { world: lowest },
         Some(second) => Verdict::Rivals {
