@@ -37,9 +37,14 @@ module _ (m : Meaning) where
           | inr n ↦ rw (ne_eqb g f n, get_or-set_other rows f g (Some new) None n) refl
         ]
 
-    pub put_kept : (row : ℕ → Bool) → ((w : ℕ) → w < 4096 → bit new w ≡ row w)
+    -- only the bits of the survivors count
+    pub put_kept : (row : ℕ → Bool) → ((w : ℕ) → m.survives w ≡ true → bit new w ≡ row w)
         → replaced (put_facts m (set rows f (Some new))) (put_rows (set rows f (Some new))) m ≡ put f row (replaced (put_facts m rows) (put_rows rows) m)
     put_kept row same =
         let before = replaced (put_facts m rows) (put_rows rows) m in
-        kept ∙ (gone_bits_idle before (lawful_replaced m (put_facts m rows) (put_rows rows) (put_facts_there m rows) law) (bit new) row
-        (λ w e. same w (omega (arith, law.within w e, law.few_worlds)))).2 f
+        kept ∙ (gone_bits_idle before (lawful_replaced m (put_facts m rows) (put_rows rows) (put_facts_there m rows) law) (bit new) row same).2 f
+
+    -- and there are no survivors but of 4,096 worlds
+    pub put_row_kept : (row : ℕ → Bool) → ((w : ℕ) → w < 4096 → bit new w ≡ row w)
+        → replaced (put_facts m (set rows f (Some new))) (put_rows (set rows f (Some new))) m ≡ put f row (replaced (put_facts m rows) (put_rows rows) m)
+    put_row_kept row same = put_kept row (λ w e. same w (omega (arith, law.within w e, law.few_worlds)))

@@ -27,15 +27,23 @@ module _ (m : Meaning) (law : Lawful m) where
   small : (w : ℕ) → m.survives w ≡ true → w < 4096
   small w e = omega (arith, law.within w e, law.few_worlds)
 
-  -- a row of every world alters nothing
-  pub heard_all : (row : ℕ → Bool) → ((w : ℕ) → w < 4096 → row w ≡ true) → heard row m ≡ m
+  -- a row of all survivors alters nothing
+  pub heard_all : (row : ℕ → Bool) → ((w : ℕ) → m.survives w ≡ true → row w ≡ true) → heard row m ≡ m
   heard_all row all =
-      (gone_bits_idle m law row (λ _. true) (λ w e. all w (small w e))).0
+      (gone_bits_idle m law row (λ _. true) all).0
       ∙ same_answers m (λ w. and-true (m.survives w)) (λ p u v. or-false (m.distinguishes p u v)) (λ f w. and-true (m.fact f w)) (λ q w. refl)
 
-  -- to hear two rows is to hear what both have
-  pub heard_both : (a b c : ℕ → Bool) → ((w : ℕ) → w < 4096 → c w ≡ (a w && b w)) → heard c m ≡ heard b (heard a m)
+  -- nor does a row of every world
+  pub heard_every_world : (row : ℕ → Bool) → ((w : ℕ) → w < 4096 → row w ≡ true) → heard row m ≡ m
+  heard_every_world row all = heard_all row (λ w e. all w (small w e))
+
+  -- to hear two rows is to hear what both have of the survivors
+  pub heard_both : (a b c : ℕ → Bool) → ((w : ℕ) → m.survives w ≡ true → c w ≡ (a w && b w)) → heard c m ≡ heard b (heard a m)
   heard_both a b c both =
-      (gone_bits_idle m law c (λ w. a w && b w) (λ w e. both w (small w e))).0
+      (gone_bits_idle m law c (λ w. a w && b w) both).0
       ∙ same_answers m (λ w. sym (and_assoc (m.survives w) (a w) (b w))) (λ p u v. lacks (m.distinguishes p u v) (a u) (b u) (a v) (b v))
       (λ f w. sym (and_assoc (m.fact f w) (a w) (b w))) (λ q w. cond_and (a w) (b w) (m.quantity q w))
+
+  -- or of every world
+  pub heard_both_rows : (a b c : ℕ → Bool) → ((w : ℕ) → w < 4096 → c w ≡ (a w && b w)) → heard c m ≡ heard b (heard a m)
+  heard_both_rows a b c both = heard_both a b c (λ w e. both w (small w e))
