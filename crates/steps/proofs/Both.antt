@@ -2,9 +2,6 @@
 use Rattle.std.proofs.Common.{◌≡◌, ℕ, ◌+◌, ◌<◌, Bool, true, false, ◌&&◌, eqb, List, [], ◌∷◌, ◌++◌, length, get_or, take, sym, refl, ap, ◌∙◌, ap₂}
 use mathlib.Core.Bool.{not, and-true, and_assoc}
 use Rattle.std.specs.Prelude.{Ok, Err, Result, cond, nat_le, ◌==◌}
-use Rattle.std.specs.Result.{result_eq}
-use Rattle.std.specs.contracts.prelude.UnitPartialEq.TheImpl as UnitEq
-use Rattle.model.specs.contracts.refusals.RefusalPartialEq.TheImpl as RefusalEq
 use Rattle.model.specs.declared.refusals.Refusal.{Refusal}
 use Rattle.model.specs.declared.refusals.Refusal.TheVariants.{ShortRow, NoSuch, NotTaken}
 use Rattle.std.proofs.lemmas.List.{map_more}
@@ -15,7 +12,7 @@ use Rattle.model.specs.Stages.{StageMeaning, answer, after}
 use Rattle.steps.specs.declared.requests.Step.{Step}
 use Rattle.steps.specs.Requests.{action_of, actions}
 use Rattle.steps.specs.Runs.{run}
-use Rattle.steps.specs.Pairs.{reported, answer_alike}
+use Rattle.steps.specs.Pairs.{reported, same_result, answer_alike}
 
 -- the two stages report the same of a step
 abbrev pub report_alike : Action → StageMeaning → StageMeaning → Bool
@@ -56,10 +53,6 @@ reply_of : (a : Action) (s : StageMeaning) → (r : Reply) × (answer a s ≡ re
 reply_of (Action.hear row) s = one_of_four (Stages.short row s.model) false (not s.takes.hears)
 reply_of (Action.look p row) s = one_of_four (Stages.short row s.model) (nat_le s.model.agents p) (s.takes.looks == 0)
 reply_of (Action.put f row) s = one_of_four (Stages.short row s.model) (nat_le s.model.facts f) (not s.takes.puts)
-
--- whether two results are equal values
-abbrev same_result : Result (Unit {0}) Refusal → Result (Unit {0}) Refusal → Bool
-same_result = result_eq UnitEq.eq-value.it RefusalEq.eq-value.it
 
 -- answers of stages are equal where they report the same, since none names a node
 same_replies : (q r : Reply) → same_result (result_of q) (result_of r) ≡ eqb (reported (result_of q)) (reported (result_of r))

@@ -22,7 +22,7 @@ loop-step-preserved g c =
     let t₂ = stage_of g.T.Model.meaning g.T.Stage.takes c.take_step-second.new.stage in (
       run_more c.args.steps.now c.loop-step.step-index _ c.loop-step-test.true s s₁ s₂ c.loop-step.invariant.0 c.take_step-first.ensures.takes_the_step.leaves,
       run_more c.args.steps.now c.loop-step.step-index _ c.loop-step-test.true t t₁ t₂ c.loop-step.invariant.1 c.take_step-second.ensures.takes_the_step.leaves,
-      ap (λ (b : Bool). c.loop-step.same && b) c.eq-same.ensures
+      ap (λ (b : Bool). c.loop-step.same && b) c.same_answer-same.ensures.compares
           ∙ alike_more c.args.steps.now c.loop-step.step-index _ c.loop-step-test.true s s₁ t t₁ c.loop-step.same c.take_step-first.result c.take_step-second.result
           c.loop-step.invariant.0 c.loop-step.invariant.1 c.loop-step.invariant.2 c.take_step-first.ensures.takes_the_step.answers c.take_step-second.ensures.takes_the_step.answers,
     )
