@@ -90,3 +90,47 @@ pub fn play_over<M: Model, P: Pile<M> + Drop>(
 {
     play(P::over(model), steps, answers)
 }
+
+// The same on hearing over looking over putting.
+pub fn play_hearing_first<M: Model + Drop>(
+    model: M,
+    steps: &[Step<'_>],
+    answers: &mut [Result<(), Refusal>],
+) -> Result<Verdict, Refusal>
+    ensures plays_on_16_looks { Played (full_stage 16 (M.Model.meaning model)) steps.now answers.old result answers.new }
+{
+    play_over::<M, HearingFirst<M>>(model, steps, answers)
+}
+
+// The same on putting over looking over hearing.
+pub fn play_putting_first<M: Model + Drop>(
+    model: M,
+    steps: &[Step<'_>],
+    answers: &mut [Result<(), Refusal>],
+) -> Result<Verdict, Refusal>
+    ensures plays_on_16_looks { Played (full_stage 16 (M.Model.meaning model)) steps.now answers.old result answers.new }
+{
+    play_over::<M, PuttingFirst<M>>(model, steps, answers)
+}
+
+// The same on looking over hearing over putting.
+pub fn play_looking_first<M: Model + Drop>(
+    model: M,
+    steps: &[Step<'_>],
+    answers: &mut [Result<(), Refusal>],
+) -> Result<Verdict, Refusal>
+    ensures plays_on_16_looks { Played (full_stage 16 (M.Model.meaning model)) steps.now answers.old result answers.new }
+{
+    play_over::<M, LookingFirst<M>>(model, steps, answers)
+}
+
+// The same on looking over hearing over looking over putting, which takes 32 looks.
+pub fn play_looking_twice<M: Model + Drop>(
+    model: M,
+    steps: &[Step<'_>],
+    answers: &mut [Result<(), Refusal>],
+) -> Result<Verdict, Refusal>
+    ensures plays_on_32_looks { Played (full_stage 32 (M.Model.meaning model)) steps.now answers.old result answers.new }
+{
+    play_over::<M, LookingTwice<M>>(model, steps, answers)
+}
