@@ -5,6 +5,7 @@ use Rattle.model.specs.Meaning.{Meaning}
 use Rattle.model.specs.declared.verdict.Verdict.{Verdict}
 use Rattle.model.specs.declared.verdict.Verdict.TheVariants as found
 use Rattle.listing.specs.declared.outcomes.Header.{Header}
+use Rattle.listing.specs.declared.outcomes.Quantities.{Quantities}
 use Rattle.listing.specs.Outcomes.{Outcome, contradiction, unique, rivals}
 
 abbrev pub header_of : Meaning → Header
@@ -13,6 +14,10 @@ header_of m = record { worlds = m.width; agents = m.agents; facts = m.facts; qua
 -- the values of a model's quantities at world w
 unfoldable pub quantities_at : Meaning → ℕ → List ℕ
 quantities_at m w = map (λ q. m.quantity q w) (range_with_len 0 m.quantities)
+
+-- the same in places for eight; at a place past the last quantity a model answers 0
+unfoldable pub kept_at : Meaning → ℕ → Quantities
+kept_at m w = record { values = map (λ q. m.quantity q w) (range_with_len 0 8); count = m.quantities }
 
 -- a verdict as it is listed: a unique world comes with its quantities
 abbrev pub outcome_of : Meaning → Verdict → Outcome

@@ -2,12 +2,11 @@
 ghost use Rattle.std.specs.Prelude.{◌≡◌};
 ghost use Rattle.model.specs.Verdict.{verdict_of};
 ghost use Rattle.text.specs.Calls.{read_call};
-ghost use Rattle.listing.specs.Findings.{header_of, quantities_at, outcome_of};
+ghost use Rattle.listing.specs.Findings.{header_of, kept_at, quantities_at, outcome_of};
 ghost use Rattle.listing.specs.Listing.{answered};
-ghost use Rattle.listing.specs.Readings.{outcome_in, entry_in};
+ghost use Rattle.listing.specs.Readings.{quantities_in, outcome_in, entry_in};
 
-use crate::outcomes::{Entry, Header, Outcome, Quantities};
-use arrayvec::ArrayVec;
+use crate::outcomes::{Entry, Header, MAX_QUANTITIES, Outcome, Quantities, Refused};
 use model::questions::Model;
 use model::verdict::{Verdict, verdict_on};
 use text::calls::{Call, read_call};
@@ -24,15 +23,19 @@ pub fn header_for<M: Model>(model: &M) -> Header
     }
 }
 
-// The quantities' values at a world. A loop by number: a model has no list of its quantities, and `collect` could fail.
+// The quantities' values at a world. A loop by number: a model has no list of its quantities, and a place that is left has 0.
 pub fn quantities_for<M: Model>(model: &M, world: u16) -> Quantities
-    ensures asks_each_quantity { result.values.items ≡ quantities_at (M.meaning model.now) world }
+    ensures keeps_each_in_its_place { result ≡ kept_at (M.meaning model.now) world }
+    ensures asks_each_quantity { quantities_in result ≡ quantities_at (M.meaning model.now) world }
 {
-    let mut values = ArrayVec::new();
-    for quantity in 0..model.quantities() {
-        values.push(model.quantity(quantity, world));
+    let mut values = [0; MAX_QUANTITIES];
+    for quantity in 0..MAX_QUANTITIES {
+        values[quantity] = model.quantity(quantity as u16, world);
     }
-    Quantities { values }
+    Quantities {
+        values,
+        count: model.quantities(),
+    }
 }
 
 // The model's verdict, as the listing says it.
@@ -63,7 +66,7 @@ pub fn answer_line<M: Model>(model: &M, line: &[u8]) -> Outcome
 {
     match read_call(line) {
         Ok(Call::Verdict) => finding_for(model),
-        Err(fault) => Outcome::Refusal(fault.into()),
+        Err(fault) => Refused::from(fault).into(),
     }
 }
 

@@ -3,10 +3,10 @@ ghost use Rattle.std.specs.Prelude.{◌≡◌, Some};
 ghost use Rattle.lines.specs.Faults.{of_line};
 ghost use Rattle.model.specs.Refusals.{number_of};
 ghost use Rattle.listing.specs.declared.outcomes.Refused.TheVariants.{Line, Setting};
+ghost use Rattle.listing.specs.Outcomes.{refusal};
 ghost use Rattle.listing.specs.Texts.{fields, placed, said, numbered, headed};
-ghost use Rattle.listing.specs.Readings.{refused_in, outcome_in, entry_in};
+ghost use Rattle.listing.specs.Readings.{refused_in, quantities_in, outcome_in, entry_in};
 
-use arrayvec::ArrayVec;
 use lines::faults::LineFault;
 use model::refusals::Refusal;
 use std::fmt;
@@ -25,13 +25,17 @@ pub enum Refused {
 // The most quantities that a model has.
 pub const MAX_QUANTITIES: usize = 8;
 
-// The values of a world's quantities.
-#[derive(Drop, Debug, PartialEq, Eq)]
+// The values of a world's quantities, in places for eight, and how many of them there are. Plain numbers, which are copied as they are
+// and take 18 bytes: each entry has room for them.
+#[derive(Clone, Copy, Debug, PartialEq, Eq)]
 pub struct Quantities {
-    pub values: ArrayVec<u16, MAX_QUANTITIES>,
+    pub values: [u16; MAX_QUANTITIES],
+    pub count: u16,
 }
 
-#[derive(Drop, Debug, PartialEq, Eq)]
+// A refusal is kept by its number and its column, as it is listed: its cause, an enum in which others lie, takes 40 bytes, more than any
+// other outcome.
+#[derive(Clone, Copy, Debug, PartialEq, Eq)]
 pub enum Outcome {
     Contradiction,
     Unique {
@@ -43,11 +47,14 @@ pub enum Outcome {
         lowest: u16,
         second: u16,
     },
-    Refusal(Refused),
+    Refusal {
+        number: u16,
+        column: usize,
+    },
 }
 
 // A line of the listing.
-#[derive(Drop, Debug, PartialEq, Eq)]
+#[derive(Clone, Copy, Debug, PartialEq, Eq)]
 pub struct Entry {
     pub number: u32,
     pub outcome: Outcome,
@@ -62,7 +69,7 @@ pub struct Header {
     pub quantities: u16,
 }
 
-// Both by hand: clauses name what `?` makes, and a derived `From` has no clause.
+// All by hand: clauses name what `?` makes, and a derived `From` has no clause.
 impl From<LineFault> for Refused {
     ghost from_gives = { λ e r. r ≡ Line e };
 
@@ -76,6 +83,17 @@ impl From<Refusal> for Refused {
 
     fn from(refusal: Refusal) -> Refused {
         Refused::Setting(refusal)
+    }
+}
+
+impl From<Refused> for Outcome {
+    ghost from_gives = { λ r o. outcome_in o ≡ refusal (refused_in r) };
+
+    fn from(refused: Refused) -> Outcome {
+        Outcome::Refusal {
+            number: refused.number(),
+            column: refused.column(),
+        }
     }
 }
 
@@ -111,12 +129,22 @@ impl fmt::Display for Refused {
     }
 }
 
+impl Quantities {
+    // The values that there are.
+    pub fn as_slice(&self) -> &[u16]
+        ensures has_as_many_as_there_are { result.now ≡ quantities_in self.now }
+    {
+        let count = (self.count as usize).min(MAX_QUANTITIES);
+        &self.values[..count]
+    }
+}
+
 // Numbers, each after a space.
 impl fmt::Display for Quantities {
-    ghost output = { λ q. Some (fields q.values.items) };
+    ghost output = { λ q. Some (fields (quantities_in q)) };
 
     fn fmt<W: fmt::Write>(&self, f: &mut fmt::Formatter<W>) -> fmt::Result {
-        for value in self.values.as_slice() {
+        for value in self.as_slice() {
             write!(f, " {value}")?;
         }
         Ok(())
@@ -135,7 +163,7 @@ impl fmt::Display for Outcome {
                 lowest,
                 second,
             } => write!(f, "rivals {count} {lowest} {second}"),
-            Outcome::Refusal(refused) => write!(f, "refused {refused}"),
+            Outcome::Refusal { number, column } => write!(f, "refused {number} {column}"),
         }
     }
 }

@@ -6,7 +6,7 @@ ghost use Rattle.listing.specs.Readings.{refused_in};
 ghost use Rattle.listing.specs.Sheets.{page_of};
 
 use crate::findings::{entry_for, header_for};
-use crate::outcomes::{Entry, Outcome, Refused};
+use crate::outcomes::{Entry, Refused};
 use crate::sheets::Sheet;
 use crate::texts::Lines;
 use model::questions::Model;
@@ -46,7 +46,7 @@ impl Sheet {
         self.header = None;
         self.entries.push_reserved(Entry {
             number,
-            outcome: Outcome::Refusal(refused),
+            outcome: refused.into(),
         });
     }
 }
