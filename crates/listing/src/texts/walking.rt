@@ -1,5 +1,5 @@
 // Goes through the lines of a text that are not blank.
-ghost use Rattle.std.specs.Prelude.{◌≡◌, ◌≤◌, length, Some};
+ghost use Rattle.std.specs.Prelude.{◌≡◌, ◌+◌, ◌<◌, ◌≤◌, length, Some};
 ghost use Rattle.std.specs.Iterator.{at_most};
 ghost use Rattle.listing.specs.Lines.{lines_of, lines_left, size_left};
 ghost use Rattle.listing.specs.Walks.{NextFilled};
@@ -18,6 +18,18 @@ impl<'a> Lines<'a> {
             rest: Some(text),
         }
     }
+
+    // The lines after the one of this number.
+    fn after(number: u32, rest: Option<&'a [u8]>) -> Lines<'a>
+        requires is_left { number + size_left rest < 16386 }
+        ensures counts_on { result.number ≡ number + 1 }
+        ensures keeps_the_rest { result.rest ≡ rest.entry }
+    {
+        Lines {
+            number: number + 1,
+            rest,
+        }
+    }
 }
 
 // The lines that are not blank, each with its number.
@@ -32,10 +44,7 @@ impl<'a> Iterator for Lines<'a> {
         while let Some(text) = self.rest {
             let (line, rest) = first_line(text);
             let number = self.number;
-            *self = Lines {
-                number: number + 1,
-                rest,
-            };
+            *self = Lines::after(number, rest);
             if !is_blank(line) {
                 return Some((number, line));
             }
