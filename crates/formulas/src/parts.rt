@@ -1,5 +1,5 @@
-// Parts of a line that formulas and lines share, each read where the cursor stands.
-ghost use Rattle.std.specs.Prelude.{◌≡◌, ℕ, [], Some, None, MatchOption, MatchResult};
+// Parts of a line that formulas and lines share, each read where the cursor stands, which stays there at a fault.
+ghost use Rattle.std.specs.Prelude.{◌≡◌, ℕ, [], Some, None, MatchOption, MatchResult, IfOk, IfNone, OnErr};
 ghost use Rattle.lexer.specs.Faults.{of_token};
 ghost use Rattle.formulas.specs.Faults.{of_formula};
 ghost use Rattle.formulas.specs.Reading.{a_number, number_if, the_end, perhaps, the_sign, parsed};
@@ -9,26 +9,37 @@ use crate::faults::FormulaFault;
 use lexer::cursor::Cursor;
 use lexer::tokens::{Sign, Token, TokenFault};
 
-// A number.
+// A number, which is passed.
 #[tactic(auto, unfolding(crate::specs::Reading::a_number))]
 pub fn number(cursor: &mut Cursor<'_>) -> Result<u16, FormulaFault>
     ensures reads_a_number { MatchResult result (λ n. Gave (a_number cursor.old) n cursor.old cursor.new) (λ e. Failed (a_number cursor.old) (of_formula e)) }
+    ensures stays_at_a_fault { OnErr result (cursor.new ≡ cursor.old) }
 {
-    let x = cursor.next_token()?;
+    let mut ahead = cursor.fork();
+    let x = ahead.next_token()?;
     match x.token {
-        Token::Number { value, .. } => Ok(value),
+        Token::Number { value, .. } => {
+            *cursor = ahead;
+            Ok(value)
+        }
         Token::Word(_) | Token::Sign(_) | Token::End => Err(FormulaFault::Place(x.column)),
     }
 }
 
-// A number; none at the line's end.
+// A number, which is passed; none at the line's end, which is not.
 #[tactic(auto, unfolding(crate::specs::Reading::number_if))]
 pub fn number_if(cursor: &mut Cursor<'_>) -> Result<Option<u16>, FormulaFault>
     ensures reads_a_number_or_the_end { MatchResult result (λ o. MatchOption o (number_if cursor.old ≡ parsed None []) (λ n. Gave (number_if cursor.old) (Some n) cursor.old cursor.new)) (λ e. Failed (number_if cursor.old) (of_formula e)) }
+    ensures stays_at_the_end { IfOk result (λ o. IfNone o (cursor.new ≡ cursor.old)) }
+    ensures stays_at_a_fault { OnErr result (cursor.new ≡ cursor.old) }
 {
-    let x = cursor.next_token()?;
+    let mut ahead = cursor.fork();
+    let x = ahead.next_token()?;
     match x.token {
-        Token::Number { value, .. } => Ok(Some(value)),
+        Token::Number { value, .. } => {
+            *cursor = ahead;
+            Ok(Some(value))
+        }
         Token::End => Ok(None),
         Token::Word(_) | Token::Sign(_) => Err(FormulaFault::Place(x.column)),
     }
@@ -36,10 +47,10 @@ pub fn number_if(cursor: &mut Cursor<'_>) -> Result<Option<u16>, FormulaFault>
 
 // That nothing more stands on the line.
 #[tactic(auto, unfolding(crate::specs::Reading::the_end))]
-pub fn end(cursor: &mut Cursor<'_>) -> Result<(), FormulaFault>
-    ensures reads_the_end { MatchResult result (λ _. the_end cursor.old ≡ parsed tt []) (λ e. Failed (the_end cursor.old) (of_formula e)) }
+pub fn end(cursor: &Cursor<'_>) -> Result<(), FormulaFault>
+    ensures reads_the_end { MatchResult result (λ _. the_end cursor.now ≡ parsed tt []) (λ e. Failed (the_end cursor.now) (of_formula e)) }
 {
-    let x = cursor.next_token()?;
+    let x = cursor.fork().next_token()?;
     match x.token {
         Token::End => Ok(()),
         Token::Number { .. } | Token::Word(_) | Token::Sign(_) => {
@@ -67,11 +78,16 @@ pub(crate) fn perhaps_sign(cursor: &mut Cursor<'_>, sign: Sign) -> Result<Option
 // The sign, which is passed.
 #[tactic(auto, unfolding(crate::specs::Reading::the_sign))]
 pub(crate) fn expect_sign(cursor: &mut Cursor<'_>, sign: Sign) -> Result<(), FormulaFault>
-    ensures { MatchResult result (λ _. (c : ℕ) × Gave (the_sign sign cursor.old) c cursor.old cursor.new) (λ e. Failed (the_sign sign cursor.old) (of_formula e)) }
+    ensures reads { MatchResult result (λ _. (c : ℕ) × Gave (the_sign sign cursor.old) c cursor.old cursor.new) (λ e. Failed (the_sign sign cursor.old) (of_formula e)) }
+    ensures stays_at_a_fault { OnErr result (cursor.new ≡ cursor.old) }
 {
-    let x = cursor.next_token()?;
+    let mut ahead = cursor.fork();
+    let x = ahead.next_token()?;
     match x.token {
-        Token::Sign(s) if s == sign => Ok(()),
+        Token::Sign(s) if s == sign => {
+            *cursor = ahead;
+            Ok(())
+        }
         Token::Number { .. } | Token::Word(_) | Token::Sign(_) | Token::End => {
             Err(FormulaFault::Place(x.column))
         }

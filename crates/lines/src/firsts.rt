@@ -1,5 +1,5 @@
 // Reads the first word of a line.
-ghost use Rattle.std.specs.Prelude.{◌≡◌, ◌<◌, ◌≤◌, length};
+ghost use Rattle.std.specs.Prelude.{◌≡◌, ◌<◌, ◌≤◌, length, OnErr};
 ghost use Rattle.std.specs.Result.{MatchResult};
 ghost use Rattle.lexer.specs.Tokens.{pieces_from};
 ghost use Rattle.formulas.specs.Steps.{Failed};
@@ -28,18 +28,23 @@ pub fn start(line: &[u8]) -> Result<Cursor<'_>, LineFault>
     Ok(Cursor::new(line))
 }
 
-// The first word of the line that the cursor stands at the start of. That it is known is asked by settings and calls: a function over
-// the kind of word would need a longer contract than the line that it saves.
+// The first word of the line that the cursor stands at the start of, and stays at if there is a fault. That it is known is asked by
+// settings and calls: a function over the kind of word would need a longer contract than the line that it saves.
 #[tactic(auto, unfolding(crate::specs::Reading::the_beginning))]
 pub fn first_word<'a>(cursor: &mut Cursor<'a>) -> Result<FirstWord<'a>, LineFault>
     ensures reads_a_word { MatchResult result (λ x. Begun cursor.old x cursor.new) (λ e. Failed (the_beginning cursor.old) (of_line e)) }
+    ensures stays_at_a_fault { OnErr result (cursor.new ≡ cursor.old) }
 {
-    let x = cursor.next_token()?;
+    let mut ahead = cursor.fork();
+    let x = ahead.next_token()?;
     match x.token {
-        Token::Word(word) => Ok(FirstWord {
-            word,
-            column: x.column,
-        }),
+        Token::Word(word) => {
+            *cursor = ahead;
+            Ok(FirstWord {
+                word,
+                column: x.column,
+            })
+        }
         Token::Number { .. } | Token::Sign(_) | Token::End => Err(LineFault::Word(x.column)),
     }
 }
