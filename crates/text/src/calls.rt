@@ -14,6 +14,7 @@ pub enum Call {
 }
 
 // Reads a later line.
+#[tactic(auto, using(crate::proofs::Steps::too_long, crate::proofs::Steps::no_word, crate::proofs::Steps::no_call, crate::proofs::Steps::a_call))]
 pub fn read_call(line: &[u8]) -> Result<Call, LineFault>
     ensures answers_the_line { request_of result ≡ read_call line.now }
 {
@@ -22,7 +23,7 @@ pub fn read_call(line: &[u8]) -> Result<Call, LineFault>
     if first.word != b"verdict".as_slice() {
         return Err(LineFault::Word(first.column));
     }
-    end(&mut cursor)?;
+    end(&cursor)?;
     Ok(Call::Verdict)
 }
 
