@@ -1,8 +1,11 @@
 -- Steps of a chain of operands.
-use Rattle.std.proofs.Common.{◌≡◌, ℕ, zero, suc, ◌-◌, ◌<◌, ◌≤◌, List, [], ◌∷◌, length, Some, None, Option, refl, ap, ◌∙◌, subst, arith}
+use Rattle.std.proofs.Common.{◌≡◌, ℕ, zero, suc, ◌+◌, ◌-◌, ◌<◌, ◌≤◌, min, List, [], ◌∷◌, length, drop, Some, None, Option, refl, ap, ◌∙◌, subst, arith}
+use Rattle.std.proofs.lemmas.Bool.{cond_both}
+use Rattle.lexer.specs.declared.tokens.Class.TheVariants.{Space}
 use Rattle.lexer.specs.declared.tokens.Sign.{Sign}
+use Rattle.lexer.specs.Bytes.{belongs}
 use Rattle.lexer.specs.Faults.{Fault}
-use Rattle.lexer.specs.Tokens.{Placed}
+use Rattle.lexer.specs.Tokens.{Placed, piece_at, more, scan, pieces_from}
 use Rattle.formulas.specs.Sentences.{Sentence}
 use Rattle.formulas.specs.Reading.{Outcome, fault, parsed, Reader, bind, perhaps}
 use Rattle.formulas.specs.Readers.{chain}
@@ -42,6 +45,15 @@ module _ (s : Sign) (join : Sentence → Sentence → Sentence) (operand : Reade
   unfolding chain
   chain_ends zero f ps h e = refl
   chain_ends (suc n) f ps h e = chain_stop (suc n) f ps (omega arith) e
+
+scan_some : (k c : ℕ) (bs : List ℕ) → 0 < length (scan k c bs)
+scan_some k c [] = omega arith
+scan_some zero c (b ∷ bs) = cond_both (belongs Space b) (scan 0 (c + 1) bs) (record { piece = piece_at b bs; column = c } ∷ scan (more b bs) (c + 1) bs) (λ l. 0 < length l) (λ _. scan_some 0 (c + 1) bs) (λ _. omega arith)
+scan_some (suc k) c (b ∷ bs) = scan_some k (c + 1) bs
+
+pub pieces_some : (line : List ℕ) (from : ℕ) → 0 < length (pieces_from line from)
+unfolding pieces_from
+pieces_some line from = scan_some 0 (min from (length line) + 1) (drop from line)
 
 -- the sign is found only where pieces are left, and so is a fault
 pub sign_some : (s : Sign) (ps rest : List Placed) (c : ℕ) → perhaps s ps ≡ parsed (Some c) rest → 0 < length ps

@@ -1,11 +1,31 @@
 -- Facts on the pieces of a line.
-use Rattle.std.proofs.Common.{◌≡◌, ℕ, zero, suc, ◌+◌, ◌≤◌, true, false, List, [], ◌∷◌, length, drop, sym, ap, ◌∙◌, ⊎_elim, add-zero, one-add, arith}
+use Rattle.std.proofs.Common.{◌≡◌, ℕ, zero, suc, ◌+◌, ◌-◌, ◌*◌, ◌<◌, ◌≤◌, true, false, List, [], ◌∷◌, length, get_or, take, drop, fold, sym, refl, ap, ◌∙◌, ⊎_elim, add-zero, one-add, arith}
 use native.Mathlib.Nat.{min-eq_left}
 use Rattle.std.specs.List.{prefix_len}
+use Rattle.std.proofs.lemmas.List.Sums.{fold_more}
 use Rattle.std.proofs.lemmas.Bool.{cases_Bool}
 use Rattle.lexer.specs.declared.tokens.Class.TheVariants.{Space}
-use Rattle.lexer.specs.Bytes.{belongs}
+use Rattle.lexer.specs.Bytes.{belongs, value_of}
 use Rattle.lexer.specs.Tokens.{scan, pieces_from}
+
+abbrev digits : ℕ → ℕ → ℕ
+digits n b = n * 10 + (b - 48)
+
+pub value_grows : (n : ℕ) (ds : List ℕ) → n ≤ fold digits n ds
+value_grows n [] = omega arith
+value_grows n (d ∷ ds) = omega (arith, value_grows (digits n d) ds)
+
+pub value_more : (ds : List ℕ) (i : ℕ) → i < length ds → value_of (take (i + 1) ds) ≡ value_of (take i ds) * 10 + (get_or ds i 0 - 48)
+value_more ds i h = fold_more digits 0 ds i 0 h
+
+folded_split : (n i : ℕ) (ds : List ℕ) → fold digits n ds ≡ fold digits (fold digits n (take i ds)) (drop i ds)
+folded_split n zero ds = refl
+folded_split n (suc i) [] = refl
+folded_split n (suc i) (d ∷ ds) = folded_split (digits n d) i ds
+
+-- what the first digits write is no more than what all do
+pub value_front : (i : ℕ) (ds : List ℕ) → value_of (take i ds) ≤ value_of ds
+value_front i ds = omega (arith, folded_split 0 i ds, value_grows (value_of (take i ds)) (drop i ds))
 
 -- bytes to skip are passed over
 pub scan_skip : (k c : ℕ) (bs : List ℕ) → k ≤ length bs → scan k c bs ≡ scan 0 (c + k) (drop k bs)

@@ -1,8 +1,16 @@
 -- Steps of the readers.
-use Rattle.std.proofs.Common.{◌≡◌, ℕ, List, [], ◌∷◌, Some, None, Option, refl}
+use Rattle.std.proofs.Common.{◌≡◌, ℕ, List, [], ◌∷◌, ◌++◌, Some, None, Option, sym, refl, ap, append_assoc}
 use Rattle.lexer.specs.Tokens.{Piece, number, word, sign, bad, done, Placed}
-use Rattle.formulas.specs.Reading.{parsed, Reader, bind, at, number_or, a_number, number_if}
+use Rattle.formulas.specs.Reading.{Outcome, fault, parsed, Reader, bind, at, number_or, a_number, number_if}
 use Rattle.lines.specs.Reading.{before, dates_after, the_dates}
+
+pub before_none : (o : Outcome (List (ℕ × ℕ))) → before [] o ≡ o
+before_none (fault e) = refl
+before_none (parsed es ps) = refl
+
+pub before_more : (ds : List (ℕ × ℕ)) (d : ℕ × ℕ) (o : Outcome (List (ℕ × ℕ))) → before ds (before (d ∷ []) o) ≡ before (ds ++ d ∷ []) o
+before_more ds d (fault e) = refl
+before_more ds d (parsed es ps) = ap (λ l. parsed l ps) (sym (append_assoc ds (d ∷ []) es))
 
 -- a day is a number, with the other dates after it
 pub day_step : (m : ℕ) (ps : List Placed) → dates_after (Some m) ps ≡ bind (a_number ps) (λ d r. before ((m, d) ∷ []) (the_dates r))
