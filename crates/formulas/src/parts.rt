@@ -1,4 +1,4 @@
-// Parts of a line that formulas and lines share, each read where the cursor stands, which stays there at a fault.
+// Parts of a line that formulas and lines share, each read where the cursor stands. What is public leaves it there at a fault.
 ghost use Rattle.std.specs.Prelude.{◌≡◌, ℕ, [], Some, None, MatchOption, MatchResult, IfOk, IfNone, OnErr};
 ghost use Rattle.lexer.specs.Faults.{of_token};
 ghost use Rattle.formulas.specs.Faults.{of_formula};
@@ -9,20 +9,26 @@ use crate::faults::FormulaFault;
 use lexer::cursor::Cursor;
 use lexer::tokens::{Sign, Token, TokenFault};
 
+// The fault of a token out of place, at its column; the cursor goes back to where it stood.
+fn misplaced<'a>(cursor: &mut Cursor<'a>, begun: Cursor<'a>, column: usize) -> FormulaFault
+    ensures goes_back { cursor.new ≡ begun.entry }
+    ensures is_the_fault { result ≡ FormulaFault.Place column }
+{
+    *cursor = begun;
+    FormulaFault::Place(column)
+}
+
 // A number, which is passed.
 #[tactic(auto, unfolding(crate::specs::Reading::a_number))]
 pub fn number(cursor: &mut Cursor<'_>) -> Result<u16, FormulaFault>
     ensures reads_a_number { MatchResult result (λ n. Gave (a_number cursor.old) n cursor.old cursor.new) (λ e. Failed (a_number cursor.old) (of_formula e)) }
     ensures stays_at_a_fault { OnErr result (cursor.new ≡ cursor.old) }
 {
-    let mut ahead = cursor.fork();
-    let x = ahead.next_token()?;
+    let begun = cursor.fork();
+    let x = cursor.next_token()?;
     match x.token {
-        Token::Number { value, .. } => {
-            *cursor = ahead;
-            Ok(value)
-        }
-        Token::Word(_) | Token::Sign(_) | Token::End => Err(FormulaFault::Place(x.column)),
+        Token::Number { value, .. } => Ok(value),
+        Token::Word(_) | Token::Sign(_) | Token::End => Err(misplaced(cursor, begun, x.column)),
     }
 }
 
@@ -33,28 +39,27 @@ pub fn number_if(cursor: &mut Cursor<'_>) -> Result<Option<u16>, FormulaFault>
     ensures stays_at_the_end { IfOk result (λ o. IfNone o (cursor.new ≡ cursor.old)) }
     ensures stays_at_a_fault { OnErr result (cursor.new ≡ cursor.old) }
 {
-    let mut ahead = cursor.fork();
-    let x = ahead.next_token()?;
+    let begun = cursor.fork();
+    let x = cursor.next_token()?;
     match x.token {
-        Token::Number { value, .. } => {
-            *cursor = ahead;
-            Ok(Some(value))
-        }
+        Token::Number { value, .. } => Ok(Some(value)),
         Token::End => Ok(None),
-        Token::Word(_) | Token::Sign(_) => Err(FormulaFault::Place(x.column)),
+        Token::Word(_) | Token::Sign(_) => Err(misplaced(cursor, begun, x.column)),
     }
 }
 
-// That nothing more stands on the line.
+// That nothing more stands on the line. The cursor stays where it stands.
 #[tactic(auto, unfolding(crate::specs::Reading::the_end))]
-pub fn end(cursor: &Cursor<'_>) -> Result<(), FormulaFault>
-    ensures reads_the_end { MatchResult result (λ _. the_end cursor.now ≡ parsed tt []) (λ e. Failed (the_end cursor.now) (of_formula e)) }
+pub fn end(cursor: &mut Cursor<'_>) -> Result<(), FormulaFault>
+    ensures reads_the_end { MatchResult result (λ _. the_end cursor.old ≡ parsed tt []) (λ e. Failed (the_end cursor.old) (of_formula e)) }
+    ensures stays { cursor.new ≡ cursor.old }
 {
-    let x = cursor.fork().next_token()?;
+    let begun = cursor.fork();
+    let x = cursor.next_token()?;
     match x.token {
         Token::End => Ok(()),
         Token::Number { .. } | Token::Word(_) | Token::Sign(_) => {
-            Err(FormulaFault::Place(x.column))
+            Err(misplaced(cursor, begun, x.column))
         }
     }
 }
@@ -78,16 +83,11 @@ pub(crate) fn perhaps_sign(cursor: &mut Cursor<'_>, sign: Sign) -> Result<Option
 // The sign, which is passed.
 #[tactic(auto, unfolding(crate::specs::Reading::the_sign))]
 pub(crate) fn expect_sign(cursor: &mut Cursor<'_>, sign: Sign) -> Result<(), FormulaFault>
-    ensures reads { MatchResult result (λ _. (c : ℕ) × Gave (the_sign sign cursor.old) c cursor.old cursor.new) (λ e. Failed (the_sign sign cursor.old) (of_formula e)) }
-    ensures stays_at_a_fault { OnErr result (cursor.new ≡ cursor.old) }
+    ensures { MatchResult result (λ _. (c : ℕ) × Gave (the_sign sign cursor.old) c cursor.old cursor.new) (λ e. Failed (the_sign sign cursor.old) (of_formula e)) }
 {
-    let mut ahead = cursor.fork();
-    let x = ahead.next_token()?;
+    let x = cursor.next_token()?;
     match x.token {
-        Token::Sign(s) if s == sign => {
-            *cursor = ahead;
-            Ok(())
-        }
+        Token::Sign(s) if s == sign => Ok(()),
         Token::Number { .. } | Token::Word(_) | Token::Sign(_) | Token::End => {
             Err(FormulaFault::Place(x.column))
         }

@@ -18,12 +18,10 @@ pub fn formula(cursor: &mut Cursor<'_>, nodes: &mut NodeList) -> Result<(), Form
     ensures keeps_the_nodes_before { Keeps (store_of nodes.old) (store_of nodes.new) }
     ensures stays_at_a_fault { OnErr result (cursor.new ≡ cursor.old) }
 {
-    let mut ahead = cursor.fork();
-    Parser {
-        cursor: &mut ahead,
-        nodes,
+    let begun = cursor.fork();
+    let answer = Parser { cursor, nodes }.disjunction(LEVELS);
+    if answer.is_err() {
+        *cursor = begun;
     }
-    .disjunction(LEVELS)?;
-    *cursor = ahead;
-    Ok(())
+    answer
 }

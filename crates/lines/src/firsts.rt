@@ -35,16 +35,16 @@ pub fn first_word<'a>(cursor: &mut Cursor<'a>) -> Result<FirstWord<'a>, LineFaul
     ensures reads_a_word { MatchResult result (λ x. Begun cursor.old x cursor.new) (λ e. Failed (the_beginning cursor.old) (of_line e)) }
     ensures stays_at_a_fault { OnErr result (cursor.new ≡ cursor.old) }
 {
-    let mut ahead = cursor.fork();
-    let x = ahead.next_token()?;
+    let begun = cursor.fork();
+    let x = cursor.next_token()?;
     match x.token {
-        Token::Word(word) => {
-            *cursor = ahead;
-            Ok(FirstWord {
-                word,
-                column: x.column,
-            })
+        Token::Word(word) => Ok(FirstWord {
+            word,
+            column: x.column,
+        }),
+        Token::Number { .. } | Token::Sign(_) | Token::End => {
+            *cursor = begun;
+            Err(LineFault::Word(x.column))
         }
-        Token::Number { .. } | Token::Sign(_) | Token::End => Err(LineFault::Word(x.column)),
     }
 }

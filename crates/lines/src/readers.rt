@@ -1,4 +1,4 @@
-// Reads what the lines of settings have in common, each where the cursor stands. What goes up to the line's end moves no cursor.
+// Reads what the lines of settings have in common, each where the cursor stands.
 ghost use Rattle.std.specs.Prelude.{◌≡◌, ◌≤◌, [], length, MatchOption, MatchResult};
 ghost use Rattle.formulas.specs.Faults.{of_formula};
 ghost use Rattle.formulas.specs.Reading.{parsed};
@@ -13,12 +13,11 @@ use formulas::parts::{end, number, number_if};
 use lexer::cursor::Cursor;
 
 // A number with nothing after it.
-pub fn last_number(cursor: &Cursor<'_>) -> Result<u16, FormulaFault>
-    ensures { MatchResult result (λ n. last_number cursor.now ≡ parsed n []) (λ e. Failed (last_number cursor.now) (of_formula e)) }
+pub fn last_number(cursor: &mut Cursor<'_>) -> Result<u16, FormulaFault>
+    ensures { MatchResult result (λ n. last_number cursor.old ≡ parsed n []) (λ e. Failed (last_number cursor.old) (of_formula e)) }
 {
-    let mut ahead = cursor.fork();
-    let n = number(&mut ahead)?;
-    end(&ahead)?;
+    let n = number(cursor)?;
+    end(cursor)?;
     Ok(n)
 }
 
@@ -37,13 +36,12 @@ fn date(cursor: &mut Cursor<'_>) -> Result<Option<MonthDay>, FormulaFault>
 }
 
 // The dates up to the end of a line of at most 200 bytes, which has no more pieces than these and its end.
-pub fn all_dates(cursor: &Cursor<'_>, dates: &mut DateList) -> Result<(), FormulaFault>
-    requires { length cursor.now ≤ 201 }
-    ensures { MatchResult result (λ _. the_dates cursor.now ≡ parsed (days_of dates.new) []) (λ e. Failed (the_dates cursor.now) (of_formula e)) }
+pub fn all_dates(cursor: &mut Cursor<'_>, dates: &mut DateList) -> Result<(), FormulaFault>
+    requires { length cursor.old ≤ 201 }
+    ensures { MatchResult result (λ _. the_dates cursor.old ≡ parsed (days_of dates.new) []) (λ e. Failed (the_dates cursor.old) (of_formula e)) }
 {
     dates.clear();
-    let mut ahead = cursor.fork();
-    while let Some(found) = date(&mut ahead)? {
+    while let Some(found) = date(cursor)? {
         dates.add(found);
     }
     Ok(())

@@ -23,7 +23,7 @@ pub fn read_call(line: &[u8]) -> Result<Call, LineFault>
     if first.word != b"verdict".as_slice() {
         return Err(LineFault::Word(first.column));
     }
-    end(&cursor)?;
+    end(&mut cursor)?;
     Ok(Call::Verdict)
 }
 

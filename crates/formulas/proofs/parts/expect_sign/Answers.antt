@@ -4,4 +4,4 @@ use Rattle.formulas.proofs.parts.expect_sign.Goals as goal
 
 pub returns-in-Sign : goal.returns-in-Sign
 unfolding the_sign
-returns-in-Sign c = record { reads = (c.in_ok-x.x.column, search rules); stays_at_a_fault = tt }
+returns-in-Sign c = (c.in_ok-x.x.column, search rules)

@@ -7,9 +7,9 @@ use Rattle.lines.proofs.readers.all_dates.Given as goal
 abbrev pub invariant-loop-found : goal.invariant-loop-found
 invariant-loop-found l =
     record {
-      room : 2 * count l.dates + length l.ahead ≤ 201;
-      so_far : the_dates l.cursor ≡ before (days_of l.dates) (the_dates l.ahead);
+      room : 2 * count l.dates + length l.cursor ≤ 201;
+      so_far : the_dates l.initial.cursor ≡ before (days_of l.dates) (the_dates l.cursor);
     }
 
 abbrev pub decreases-loop-found : goal.decreases-loop-found
-decreases-loop-found l = length l.ahead
+decreases-loop-found l = length l.cursor
